@@ -1,45 +1,29 @@
 -- Which files a call of the program opens for its words, and what is done over them.
-use Rattle.std.specs.Prelude.{◌≡◌, ◌⊎◌, ℕ, List, [], Option, Some}
+use Rattle.std.specs.Prelude.{◌≡◌, ◌⊎◌, ◌≤◌, ◌+◌, ℕ, List, [], Option, Some}
+use Rattle.std.specs.Io.KnownBytes.{IsAtEnd}
 use Rattle.std.specs.List.{slice_get}
 use Rattle.graph_io.specs.Causes.{Rose}
+use Rattle.graph_io.specs.Reading.{TookAtMost}
 use Rattle.graph_io.specs.declared.keeper.Look.{Look}
 use Rattle.answers.specs.declared.answer.Answer.{Answer}
+use Rattle.answers.specs.Stages.{most_bytes}
 use Rattle.answers.specs.Ways.{Ways, over_source}
 use Rattle.graph_cli.specs.Outcome as graph
 use Rattle.study_answers.specs.KeeperWays.{over_keeper}
 use Rattle.study_cli.specs.StudyOutcome as study
-use Rattle.program.specs.Asks.{Ask, open_file, open_store, close_store}
+use Rattle.program.specs.Asks.{Ask, open_file, close_file, open_store, close_store}
 
 -- the path of the file that the words name: a proof, or the commands of a study
 abbrev pub NamesPath : List (List ℕ) → List ℕ → Type 0
 NamesPath words path = (place : ℕ) × graph.NamesFile words place × (slice_get words place ≡ Some path)
 
--- An opener was requested to open the file that the words name, and is `mid` then. `left` is what is read of the file. No bytes are read of a file
--- that was refused. If no file is named, none is requested, and there are no bytes.
-abbrev pub IsGiven : {O : Type 0} → (O → Ask → O → Type 0) → (O → List ℕ → Option (List ℕ)) → (O → List ℕ → Type 0) → List (List ℕ)
-    → O → O → Option (List ℕ) → Type 0
-IsGiven Does bytes_at MayRefuse words old mid left =
-    ((path : List ℕ) × NamesPath words path × Does old (open_file path) mid
-    × ((left ≡ bytes_at old path) ⊎ (MayRefuse old path × (left ≡ Some []))))
-    ⊎ (((path : List ℕ) → ¬ NamesPath words path) × (mid ≡ old) × (left ≡ Some []))
-
--- The store that the words name was requested, held the looks `kept`, and was given back with the looks `held`. The opener is `new` then.
--- If no store is named, none is requested, and there are no looks before.
-abbrev pub IsStored : {O : Type 0} → (O → Ask → O → Type 0) → (O → List ℕ → Option (List Look)) → List (List ℕ)
-    → O → O → (kept held : Option (List Look)) → Type 0
-IsStored {O} Does looks_at words mid new kept held =
-    ((path : List ℕ) × study.NamesStore words path × (asked : O) × Does mid (open_store path) asked × (kept ≡ looks_at mid path)
-    × Does asked (close_store path held) new)
-    ⊎ (((path : List ℕ) → ¬ study.NamesStore words path) × (new ≡ mid) × (kept ≡ Some []))
-
 -- An opener was requested to open the file that the words name.
 abbrev pub IsAskedForFile : {O : Type 0} → (O → Ask → O → Type 0) → List (List ℕ) → O → O → Type 0
 IsAskedForFile Does words old new = (path : List ℕ) × NamesPath words path × Does old (open_file path) new
 
--- An opener that gave the file was requested to open the store that the words name.
-abbrev pub IsAskedForStore : {O : Type 0} → (O → Ask → O → Type 0) → List (List ℕ) → (O → Option (List ℕ) → Type 0) → O → Type 0
-IsAskedForStore {O} Does words Given new =
-    (mid : O) × (left : Option (List ℕ)) × Given mid left × (path : List ℕ) × study.NamesStore words path × Does mid (open_store path) new
+-- An opener was requested to open the store that the words name.
+abbrev pub IsAskedForStore : {O : Type 0} → (O → Ask → O → Type 0) → List (List ℕ) → O → O → Type 0
+IsAskedForStore Does words old new = (path : List ℕ) × study.NamesStore words path × Does old (open_store path) new
 
 -- There was no memory to open a file that the words name: the status is 8, and `same` says what is as it was.
 pub record IsStopped (status : ℕ) (same asked : Type 0) : Type 0 where
@@ -47,25 +31,59 @@ pub record IsStopped (status : ℕ) (same asked : Type 0) : Type 0 where
   pub same_is : same
   pub asked_for : asked
 
--- A call that is none of a study: what was done is what `run` does over the file that was given. `Ran` says what was done in such ways.
-pub record IsRun {O : Type 0} (words : List (List ℕ)) (case : Option (List ℕ)) (case_rose case_same : Type 0)
-    (Given : O → Option (List ℕ) → Type 0) (new : O) (Ran : Ways Answer → Type 0) : Type 0 where
-  pub left : Option (List ℕ)
+-- A call was made over the file that the words name, and `Done` says what was done. The opener is `from` when it was requested to open the file, and
+-- `to` after the call. `before` is what the file held, and `after` what is left of it. It was given back with the number of its calls, and of those
+-- that failed. A file that was refused has no bytes, and is not given back; its numbers are left open. If no file is named, none is requested.
+pub record IsOver {O : Type 0} (Does : O → Ask → O → Type 0) (bytes_at : O → List ℕ → Option (List ℕ)) (MayRefuse : O → List ℕ → Type 0)
+    (words : List (List ℕ)) (old new : O) (Done : O → O → (before after : Option (List ℕ)) (faults calls : ℕ) → Type 0) : Type 0 where
+  pub from : O
+  pub to : O
+  pub before : Option (List ℕ)
+  pub after : Option (List ℕ)
   pub faults : ℕ
-  pub given : Given new left
-  pub ran : Ran (over_source (graph.outcome words case left) (graph.ReadRose words case case_rose (Rose 0 faults)) (case_same × (faults ≡ 0)))
+  pub calls : ℕ
+  pub file :
+      ((path : List ℕ) × NamesPath words path × Does old (open_file path) from
+      × (((before ≡ bytes_at old path) × Does to (close_file path after faults calls) new)
+      ⊎ (MayRefuse old path × (before ≡ Some []) × (new ≡ to))))
+      ⊎ (((path : List ℕ) → ¬ NamesPath words path) × (from ≡ old) × (new ≡ to) × (before ≡ Some []) × (faults ≡ 0))
+  pub done : Done from to before after faults calls
 
--- A call of a study: what was done is what `run_study` does over the file that was given and the looks that were kept.
+-- What was done with a file. One that isn't read is as it was. With status 0, one that is read was read to its end. At most one byte more than it may
+-- have was taken of it, by few takes.
+pub record IsUsed (Reads : Type 0) (before after : Option (List ℕ)) (faults calls status : ℕ) : Type 0 where
+  pub untouched : ¬ Reads → (after ≡ before) × (faults ≡ 0) × (calls ≡ 0)
+  pub end : Reads → status ≡ 0 → IsAtEnd after
+  pub taken : IsAtEnd after ⊎ TookAtMost before after (most_bytes + 1)
+  pub turns : calls ≤ most_bytes + 2
+
+-- The store that the words name was requested, and held the looks `kept`. It was given back with the looks `held`, and with the number of its faults.
+-- If no store is named, none is requested, and there are no looks before and no faults.
+abbrev pub IsStored : {O : Type 0} → (O → Ask → O → Type 0) → (O → List ℕ → Option (List Look)) → List (List ℕ)
+    → O → O → (kept held : Option (List Look)) → ℕ → Type 0
+IsStored {O} Does looks_at words from to kept held faults =
+    ((path : List ℕ) × study.NamesStore words path × (asked : O) × Does from (open_store path) asked × (kept ≡ looks_at from path)
+    × Does asked (close_store path held faults) to)
+    ⊎ (((path : List ℕ) → ¬ study.NamesStore words path) × (to ≡ from) × (kept ≡ Some []) × (faults ≡ 0))
+
+-- A call that is none of a study: what was done is what `run` does over the file. `Ran` says what was done in such ways.
+pub record IsRun {O : Type 0} (words : List (List ℕ)) (case : Option (List ℕ)) (case_rose case_same : Type 0) (from to : O)
+    (before after : Option (List ℕ)) (faults calls status : ℕ) (Ran : Ways Answer → Type 0) : Type 0 where
+  pub same : to ≡ from
+  pub used : IsUsed (graph.ReadsProof words case) before after faults calls status
+  pub ran : Ran (over_source (graph.outcome words case before) (graph.ReadRose words case case_rose (Rose 0 faults)) (case_same × (faults ≡ 0)))
+
+-- A call of a study: what was done is what `run_study` does over the file and the looks that were kept.
 pub record IsStudied {O : Type 0} (Does : O → Ask → O → Type 0) (looks_at : O → List ℕ → Option (List Look)) (words : List (List ℕ))
-    (case : Option (List ℕ)) (case_rose case_same : Type 0) (Given : O → Option (List ℕ) → Type 0) (new : O) (Ran : Ways Answer → Type 0) : Type 0 where
-  pub mid : O
-  pub left : Option (List ℕ)
-  pub faults : ℕ
-  pub given : Given mid left
+    (case : Option (List ℕ)) (case_rose case_same : Type 0) (from to : O) (before after : Option (List ℕ)) (faults calls status : ℕ)
+    (Ran : Ways Answer → Type 0) : Type 0 where
   pub kept : Option (List Look)
   pub held : Option (List Look)
   pub keeper_faults : ℕ
-  pub stored : IsStored Does looks_at words mid new kept held
-  pub ran : Ran (over_keeper (study.study_outcome words case left kept) (study.MayEnd words case left kept)
-      (study.ReadRose words case case_rose (Rose 0 faults)) (study.KeeperRose words case left (Rose 0 keeper_faults))
+  pub stored : IsStored Does looks_at words from to kept held keeper_faults
+  -- a store of which no looks are requested is as it was
+  pub untouched : ¬ study.AsksKeeper words case before → (held ≡ kept) × (keeper_faults ≡ 0)
+  pub used : IsUsed (study.ReadsCommands words case) before after faults calls status
+  pub ran : Ran (over_keeper (study.study_outcome words case before kept) (study.MayEnd words case before kept)
+      (study.ReadRose words case case_rose (Rose 0 faults)) (study.KeeperRose words case before (Rose 0 keeper_faults))
       (case_same × (faults ≡ 0)) (keeper_faults ≡ 0) kept held)

@@ -1,7 +1,7 @@
 //! What opens the files that words name.
 ghost use Rattle.std.specs.Prelude.{◌≡◌, ℕ, List as Seq, IfOk, Err};
 ghost use Rattle.std.specs.declared.option.Option.{Option};
-ghost use Rattle.program.specs.Asks.{Ask, open_file, open_store, close_store};
+ghost use Rattle.program.specs.Asks.{Ask, open_file, close_file, open_store, close_store};
 ghost use Rattle.program.specs.declared.opener.OpenFault.TheVariants.{Refused};
 
 use field_core::NoMemory;
@@ -38,12 +38,18 @@ pub trait Opener {
     /// The looks that the store at a path keeps, where contracts know them; else `None`.
     ghost looks_at: { Self → Seq ℕ → Option (Seq Look) };
 
-    /// Opens the file at a path. It had no fault yet.
+    /// Opens the file at a path. It wasn't called yet, and had no fault.
     fn open_file(&mut self, path: &str) -> Result<Self::File, OpenFault>
         ensures asked { does self.old (open_file path.now) self.new }
         ensures bytes { IfOk result (λ file. Self.File.left file ≡ bytes_at self.old path.now) }
         ensures faults { IfOk result (λ file. Self.File.faults file ≡ 0) }
+        ensures calls { IfOk result (λ file. Self.File.calls file ≡ 0) }
         ensures refused { result ≡ Err Refused → may_refuse self.old path.now };
+
+    /// Takes back the file of a path.
+    fn close_file(&mut self, path: &str, file: Self::File)
+        ensures asked { does self.old
+            (close_file path.now (Self.File.left file) (Self.File.faults file) (Self.File.calls file)) self.new };
 
     /// Opens the store at a path. It had no fault yet.
     fn open_store(&mut self, path: &str) -> Result<Self::Store, NoMemory>
@@ -53,5 +59,5 @@ pub trait Opener {
 
     /// Takes back the store of a path.
     fn close_store(&mut self, path: &str, store: Self::Store)
-        ensures asked { does self.old (close_store path.now (Self.Store.looks store)) self.new };
+        ensures asked { does self.old (close_store path.now (Self.Store.looks store) (Self.Store.faults store)) self.new };
 }

@@ -61,6 +61,10 @@ impl Opener for Shelf {
         }
     }
 
+    fn close_file(&mut self, path: &str, _file: MemorySource) {
+        let _ = note(&mut self.asked, b"back ", path);
+    }
+
     fn open_store(&mut self, path: &str) -> Result<MemoryKeeper, NoMemory> {
         note(&mut self.asked, b"store ", path)?;
         Ok(MemoryKeeper::new(copy_of(self.alloc, self.looks.as_slice())?))
@@ -127,7 +131,7 @@ fn a_study_opens_its_commands_and_its_store(rt: HostRuntime) {
         file: Some(FIRST),
         status: 0,
         text: FIRST_TEXT,
-        asked: b"file commands.txt\nstore looks.db\nclose looks.db\n",
+        asked: b"file commands.txt\nstore looks.db\nclose looks.db\nback commands.txt\n",
         looks: 2,
     };
     assert!(rt; is_done(rt.alloc(), &row) == Some(true));
@@ -142,7 +146,7 @@ fn a_study_without_a_store_opens_its_commands(rt: HostRuntime) {
         file: Some(FIRST),
         status: 0,
         text: FIRST_TEXT,
-        asked: b"file commands.txt\n",
+        asked: b"file commands.txt\nback commands.txt\n",
         looks: 0,
     };
     assert!(rt; is_done(rt.alloc(), &row) == Some(true));
@@ -164,7 +168,7 @@ fn a_check_opens_its_document(rt: HostRuntime) {
         file: Some(b"evidence 2\nkeep H1\nend\n".as_slice()),
         status: 0,
         text: b"yes\nlisted\nkept H1\nend\n",
-        asked: b"file proof.txt\n",
+        asked: b"file proof.txt\nback proof.txt\n",
         looks: 0,
     };
     assert!(rt; is_done(rt.alloc(), &row) == Some(true));

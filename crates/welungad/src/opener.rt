@@ -41,6 +41,8 @@ impl Opener for FileOpener {
         }
     }
 
+    fn close_file(&mut self, _path: &str, _file: StdSource<fs::File>) {}
+
     /// The file is opened when looks are first requested.
     fn open_store(&mut self, path: &str) -> Result<SqliteKeeper, NoMemory> {
         match String::from_str(self.rt.alloc(), path) {

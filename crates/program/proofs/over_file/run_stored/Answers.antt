@@ -1,15 +1,35 @@
 use Rattle.std.proofs.Common.{inl, inr, refl, ap, ◌∙◌, Some}
-use Rattle.program.proofs.Opened.{made_study}
+use Rattle.program.proofs.Opened.{made_used, made_study}
 use Rattle.program.proofs.over_file.run_stored.Goals as goal
 
 pub returns-in-None-clause-study : goal.returns-in-None-clause-study
-returns-in-None-clause-study g c = inr (made_study c.args.opener.now (g.T.Source.left c.args.commands.now) (g.T.Source.faults c.args.commands.now)
-    (g.T.Source.faults c.run_study.new.commands) (Some c.new-keeper.result) (Some c.run_study.new.keeper) 0 0 c.requires refl (refl, refl)
-    (inr (c.store_path.ensures.none c.in-None.is, refl, ap Some (c.new-keeper.ensures ∙ c.new.ensures))) c.run_study.ensures.runs)
+returns-in-None-clause-study g c =
+    let t = g.T.Source in
+    let old = c.args.commands.now in
+    let new = c.run_study.new.commands in
+    inr (made_study (t.left old) (t.left new) (t.faults old) (t.faults new) (t.calls new) (Some c.new-keeper.result) (Some c.run_study.new.keeper) 0 0
+    c.requires.faults refl (inr (c.store_path.ensures.none c.in-None.is, refl, ap Some (c.new-keeper.ensures ∙ c.new.ensures), refl))
+    (λ n. (ap Some (c.run_study.ensures.untouched n), refl))
+    (made_used t.left t.faults t.calls old new _ _ c.requires.faults c.requires.calls c.run_study.ensures.commands c.run_study.ensures.commands_taken)
+    c.run_study.ensures.runs)
 
 pub returns-in-Ok-clause-study : goal.returns-in-Ok-clause-study
-returns-in-Ok-clause-study g c = inr (made_study c.args.opener.now (g.T.Source.left c.args.commands.now) (g.T.Source.faults c.args.commands.now)
-    (g.T.Source.faults c.run_study-status.new.commands) (g.O.Store.Keeper.looks c.in-Ok.store) (g.O.Store.Keeper.looks c.run_study-status.new.keeper)
-    (g.O.Store.Keeper.faults c.in-Ok.store) (g.O.Store.Keeper.faults c.run_study-status.new.keeper) c.requires c.in-Ok.ensures.faults (refl, refl)
-    (inl (c.in-Some.path.now, c.in-Some.ensures.path, c.open_store.new.self, c.open_store.ensures.asked, c.in-Ok.ensures.looks, c.close_store.ensures.asked))
-    c.run_study-status.ensures.runs)
+returns-in-Ok-clause-study g c =
+    let t = g.T.Source in
+    let k = g.O.Store.Keeper in
+    let old = c.args.commands.now in
+    let new = c.run_study-status.new.commands in
+    let after = c.run_study-status.new.keeper in
+    inr (made_study (t.left old) (t.left new) (t.faults old) (t.faults new) (t.calls new) (k.looks c.in-Ok.store) (k.looks after)
+    (k.faults c.in-Ok.store) (k.faults after) c.requires.faults c.in-Ok.ensures.faults
+    (inl (
+      c.in-Some.path.now,
+      c.in-Some.ensures.path,
+      c.open_store.new.self,
+      c.open_store.ensures.asked,
+      c.in-Ok.ensures.looks,
+      c.close_store.ensures.asked,
+    ))
+    (λ n. let same = c.run_study-status.ensures.untouched n in (ap k.looks same, ap k.faults same ∙ c.in-Ok.ensures.faults))
+    (made_used t.left t.faults t.calls old new _ _ c.requires.faults c.requires.calls c.run_study-status.ensures.commands
+    c.run_study-status.ensures.commands_taken) c.run_study-status.ensures.runs)
