@@ -55,7 +55,7 @@ module _ {S : Type 0} (g : Ghosts S) (before after : Held S) where
   abbrev pub IsTableCut : Type 0
   IsTableCut = RanInto (state g before) (state g after) make_sql [] NoMemory
 
-  -- out of memory, nothing but these ran: the table was made if it wasn't there, and its rows were shown
+  -- out of memory, nothing but these ran: the statement that makes the table if it isn't there, and the query of its rows
   abbrev pub AreLooksCut : Type 0
   AreLooksCut = IsTableCut ⊎ ((middle : Held S) × Ran (state g before) (state g middle) make_sql [] × AreRowsCut (state g middle) (state g after))
 
@@ -67,6 +67,6 @@ module _ {S : Type 0} (g : Ghosts S) (before after : Held S) where
     pub row_is : IsRowOf row look
     pub cut : RanInto (state g middle) (state g after) put_sql (values_of row) NoMemory
 
-  -- out of memory, no row was put: the table was made at most if it wasn't there, or the statement that puts the row gave the error
+  -- out of memory, the table was made at most if it wasn't there, and the statement that puts the row did not run, or gave this error
   abbrev pub IsLookCut : Look → Type 0
   IsLookCut look = IsTableCut ⊎ (Ran (state g before) (state g after) make_sql [] ⊎ IsRowCut look)

@@ -63,7 +63,7 @@ module _ (old new : State) where
   abbrev pub AreRowsRefused : Type 0
   AreRowsRefused = IsQueryRefused ⊎ ShowedNoLook
 
-  -- out of memory, the query of the rows failed, or it showed rows that weren't read
+  -- out of memory, the query of the rows failed, or it showed rows
   abbrev pub AreRowsCut : Type 0
   AreRowsCut =
       ((error : Error) × (fault_of_error error ≡ NoMemory) × FailsToQuery rows_sql [] old new error)

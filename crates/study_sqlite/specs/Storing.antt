@@ -55,7 +55,7 @@ IsAppended old new look =
     × (HasCleanDisk (file_state after) → HasCleanDisk (file_state before))
     × (HasCleanDisk (file_state after) → IsPut over_files before after look)
 
--- the file wasn't open and isn't: its opening was refused, of which no clause says when it is
+-- the file wasn't open and isn't: its opening failed, of which no clause says when and why it does
 abbrev pub IsNotOpened : Storage → Storage → Type 0
 IsNotOpened (Opened connection) now = ⊥
 IsNotOpened (Unopened rt path) now = now ≡ Unopened rt path
@@ -84,7 +84,7 @@ IsLoadCut old new =
     × (HasCleanDisk (file_state after) → HasCleanDisk (file_state before))
     × (HasCleanDisk (file_state after) → AreLooksCut over_files before after))
 
--- what a file did that took no look when out of memory: it wasn't opened, or no row was put into it
+-- what a file did that took no look when out of memory: it wasn't opened, or the statement that puts the row did not run, or gave this error
 abbrev pub IsAppendCut : Storage → Storage → Look → Type 0
 IsAppendCut old new look =
     IsNotOpened old new
