@@ -68,6 +68,7 @@ CODE = r"""
 #include <stdlib.h>
 #include <string.h>
 #include <sys/mman.h>
+#include <sys/stat.h>
 #include <unistd.h>
 
 static long chosen = -1;
@@ -399,9 +400,10 @@ class Tests:
         how = {**os.environ, "RT_ALLOW_C": "wants", "CFLAGS": flags}
         words = ["--test"]
         if self.crate in ACCEPTANCE:
-            tables = tables_of(self.crate)
-            given = [f"{it}={TOP}/crates/{self.crate}/data/{it}" for it in tables]
-            words = ["--seconds", "900", *(word for it in given for word in ("--data", it)), "--", *tables]
+            # (the smallest table shows that the program is built; all of them are run afterwards, one by one)
+            data = f"{TOP}/crates/{self.crate}/data"
+            table = min(tables_of(self.crate), key=lambda it: os.path.getsize(f"{data}/{it}"))
+            words = ["--seconds", "900", "--data", f"{table}={data}/{table}", "--", table]
         built = subprocess.run(
             ["nice", "-n", "5", "rt", "try", *words],
             cwd=f"{self.copy.top}/crates/{self.crate}",

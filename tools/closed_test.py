@@ -17,6 +17,7 @@ Prints the level, the rejected hypotheses, and for each other one a set that con
 set is printed first, with its weights and the first hypothesis that rejects it.
 """
 import argparse
+import signal
 import sys
 from itertools import combinations
 
@@ -111,4 +112,6 @@ def main():
 
 
 if __name__ == "__main__":
+    # Where the reader takes only the first lines, as `head` does, the script ends without a trace.
+    signal.signal(signal.SIGPIPE, signal.SIG_DFL)
     main()
