@@ -231,8 +231,10 @@ def is_of_tests(crate):
 
 
 def tables_of(crate):
-    """The words of the program acceptance, each of which names a table."""
-    return open(f"{TOP}/crates/{crate}/args", encoding="utf-8").read().split("\n")[:-1]
+    """The words of the program acceptance, each of which names a table, but the one that takes ten minutes in a build with checks:
+    other tables come to all functions that it comes to."""
+    tables = open(f"{TOP}/crates/{crate}/args", encoding="utf-8").read().split("\n")[:-1]
+    return [it for it in tables if it != "sixteen.rows"]
 
 
 def sources(top):
