@@ -2,6 +2,7 @@
 use Rattle.std.proofs.Common.{
   ◌≡◌,
   refl,
+  subst,
   ap,
   ap₂,
   inl,
@@ -23,7 +24,7 @@ use Rattle.std.proofs.Common.{
 }
 use Rattle.std.specs.Prelude.{codes, pos}
 use Rattle.text_lines.specs.Lines.{rows_of, end_of}
-use Rattle.text_lines.specs.Words.{words_behind}
+use Rattle.text_lines.specs.Words.{words_of, words_behind}
 use Rattle.text_lines.specs.Languages.{Completes}
 use Rattle.text_lines.proofs.LanguageLaws.{read_faults, bad_ends, early_unfinished, none_goes_on}
 use Rattle.field_core.specs.Kind.{Parts}
@@ -39,6 +40,7 @@ use Rattle.evidence_check.specs.Documents.{Frame, Form, SaysVersion, SaysNumber,
 use Rattle.evidence_check.specs.Documents.{kept_in, Stage, AtVersion, AtSteps, AtEnd, At, Place, read_at, next_at, is_ended, evidence_language}
 use Rattle.evidence_check.specs.NumberReading.{case_frame}
 use Rattle.evidence_check.specs.DocumentStatements.{start, case_reading, IsPrinted, FaultsAreWhereNoneGoesOn, NoneGoesOnIsFault}
+use Rattle.evidence_check.proofs.LineFaults.{line_runs}
 use Rattle.evidence_check.proofs.WrittenLines.{Leads, leads_on, lines_lead, number_back, keep_back, end_back, version_back, tail_lead}
 use Rattle.evidence_check.proofs.ReadWhole.{is_step}
 use Rattle.evidence_check.proofs.PrintedNumbers.{stored_printed}
@@ -109,7 +111,11 @@ ended_kind false fs kind e = cc
 pub faults_end_documents : FaultsAreWhereNoneGoesOn
 unfolding case_reading
 faults_end_documents c bytes fault e = elim (read_faults (evidence_language (case_frame (numbers_of c) c)) start (rows_of bytes) (end_of bytes) fault e) [
-  | inl b ↦ inl (bad_ends (evidence_language (case_frame (numbers_of c) c)) start (rows_of bytes) fault (case_completes (numbers_of c) c) b)
+  | inl b ↦ inl (
+    λ e. line_runs (case_frame (numbers_of c) c) b.here (words_of b.row.text)
+        (subst (λ k. (evidence_language (case_frame (numbers_of c) c)).step b.here (words_of b.row.text) ≡ Err k) e b.bad),
+    bad_ends (evidence_language (case_frame (numbers_of c) c)) start (rows_of bytes) fault (case_completes (numbers_of c) c) b,
+  )
   | inr b ↦ inr (
     ap₂ (λ line kind. record { line = line; kind = kind }) b.line_is (ended_kind (is_ended b.here.0) b.here.1 fault.kind b.must),
     early_unfinished (evidence_language (case_frame (numbers_of c) c)) start (rows_of bytes) (end_of bytes) fault

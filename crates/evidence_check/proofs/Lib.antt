@@ -39,5 +39,6 @@ pub mod SaidEvidence
 pub mod DocumentLaws
 pub mod WrittenLines
 pub mod PrintedNumbers
+pub mod LineFaults
 pub mod Completions
 pub mod WrittenTexts

@@ -1,5 +1,5 @@
 -- What documents of evidence promise.
-use Rattle.std.specs.Prelude.{◌≡◌, ◌⊎◌, ◌↔◌, ℕ, List, [], Some, Result, Ok, Err, All}
+use Rattle.std.specs.Prelude.{◌≡◌, ◌≢◌, ◌⊎◌, ◌↔◌, ℕ, List, [], Some, Result, Ok, Err, All}
 use Rattle.field_core.specs.Kind.{Parts}
 use Rattle.std.specs.List.{AllByRecursion}
 use Rattle.text_lines.specs.Lines.{rows_of, words_in, end_of}
@@ -97,11 +97,11 @@ StoredNumbersArePrinted = (n : Numbers) (c : Content) (x : Parts) → IsStoredIn
 
 -- ---- where no document continues
 
--- The first fault is in the first line with which no document continues; or the lines begin a document, and are none.
+-- The first fault is in the first line with which no document continues, and isn't that the text ended; or the lines begin a document, and are none.
 abbrev pub FaultsAreWhereNoneGoesOn : Type 0
 FaultsAreWhereNoneGoesOn =
     (c : Content) (bytes : List ℕ) (fault : FaultAt ProofKind) → HasFault c bytes fault
-    → IsWhereNoneGoesOn (evidence_language (case_frame (numbers_of c) c)) start (rows_of bytes) fault.line
+    → ((fault.kind ≢ Ended) × IsWhereNoneGoesOn (evidence_language (case_frame (numbers_of c) c)) start (rows_of bytes) fault.line)
     ⊎ ((fault ≡ record { line = end_of bytes; kind = Ended }) × IsUnfinished (evidence_language (case_frame (numbers_of c) c)) start (rows_of bytes))
 
 -- A line with which no document continues, where one continues with those before it, is that of the first fault.
