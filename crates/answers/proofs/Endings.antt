@@ -96,7 +96,7 @@ module _ (w : Ways Answer) (rose same : Type 0) (old new : Option (List ℕ)) (b
 -- The whole clause of a top call that ends in one of its ways and concludes.
 pub runs_of : (w : Ways Answer) (rose same : Type 0) (old new : Option (List ℕ)) (before after status : ℕ) (outcome : Result Answer Stop)
     → EndsIn w outcome
-    → Finished rose same old new (text_of outcome) (status_of outcome) status → after ≤ before + (length (text_of outcome) + 1)
+    → Finished rose same old new (text_of outcome) (status_of outcome) status → after ≤ before + length (text_of outcome)
     → Runs w rose same old new before after status
 runs_of w rose same old new before after status outcome h f puts =
     by_outcome w rose same old new before after status (record { outcome = outcome; ends = h; finished = f; puts = puts }) outcome h f

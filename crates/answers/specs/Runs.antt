@@ -40,13 +40,12 @@ pub record IsCutShort (w : Ways Answer) (old new : Option (List ℕ)) : Type 0 w
   pub ends : EndsIn w outcome
   pub put : AppendsPrefix old new (text_of outcome)
 
--- An outcome that the call may have was put, or the front of it before a fault of the sink. At most one put was made for each byte of its text,
--- and one more.
+-- An outcome that the call may have was put, or the front of it before a fault of the sink. At most one put was made for each byte of its text.
 pub record IsPutBriefly (w : Ways Answer) (rose same : Type 0) (old new : Option (List ℕ)) (before after status : ℕ) : Type 0 where
   pub outcome : Result Answer Stop
   pub ends : EndsIn w outcome
   pub finished : Finished rose same old new (text_of outcome) (status_of outcome) status
-  pub puts : after ≤ before + (length (text_of outcome) + 1)
+  pub puts : after ≤ before + length (text_of outcome)
 
 -- What a top call does, by its status. `w` has the ways in which the call may end. `rose` says that the sink had a fault in this call, and `same`
 -- that its count of faults stayed. `old` and `new` are what the sink held and holds, if it says that, and `before` and `after` how many puts were

@@ -12,7 +12,7 @@ fn finish<W: Sink>(out: &mut W, text: &[u8], status: u8) -> u8
     ensures finished { Finished (Rose (W.faults out.old) (W.faults out.new))
         (W.faults out.new ≡ W.faults out.old)
         (W.held out.old) (W.held out.new) text.now status result }
-    ensures turns { W.calls out.new ≤ W.calls out.old + (length text.now + 1) }
+    ensures turns { W.calls out.new ≤ W.calls out.old + length text.now }
 {
     match write_all(out, text) {
         Ok(()) => status,
@@ -28,7 +28,7 @@ pub fn conclude<W: Sink>(out: &mut W, outcome: &Result<Answer, Stop>) -> u8
     ensures finished { Finished (Rose (W.faults out.old) (W.faults out.new))
         (W.faults out.new ≡ W.faults out.old)
         (W.held out.old) (W.held out.new) (text_of outcome.now) (status_of outcome.now) result }
-    ensures turns { W.calls out.new ≤ W.calls out.old + (length (text_of outcome.now) + 1) }
+    ensures turns { W.calls out.new ≤ W.calls out.old + length (text_of outcome.now) }
 {
     match outcome {
         Ok(answer) => finish(out, answer.text.as_slice(), answer.status.code()),

@@ -33,12 +33,12 @@ pub(crate) fn bytes_refusal(alloc: Global, name: &[u8], n: u64) -> Result<Refusa
 /// Takes all bytes of a source, if there are at most 4,194,304. `name` says in the refusal which input it is, and ends with a
 /// space if it isn't empty.
 ///
-/// Of an input that has too many bytes, one more than it may have is taken. No call takes more. At most 4,194,306 takes are made.
+/// Of an input that has too many bytes, one more than it may have is taken. No call takes more. At most 4,194,305 takes are made.
 pub fn take_whole<S: Source>(alloc: Global, name: &[u8], source: &mut S) -> Result<List<u8>, Stop>
     ensures ends { EndsIn (over_source (on_bytes (S.left source.old) (within name.now))
         (Rose (S.faults source.old) (S.faults source.new)) (S.faults source.new ≡ S.faults source.old)) result }
     ensures end { OnOk result (IsAtEnd (S.left source.new)) }
-    ensures turns { S.calls source.new ≤ S.calls source.old + 4194306 }
+    ensures turns { S.calls source.new ≤ S.calls source.old + 4194305 }
     ensures taken { OnErr result (TookAtMost (S.left source.old) (S.left source.new) 4194305) }
 {
     match read_all(alloc, source, MOST_BYTES) {

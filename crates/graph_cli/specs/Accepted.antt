@@ -37,7 +37,7 @@ use Rattle.graph_cli.specs.Troubles.{line_of}
 -- An input is at its end, or at most one byte more than an input may have was taken of it, by few takes.
 pub record IsTakenWithin {S : Type 0} (left : S → Option (List ℕ)) (calls : S → ℕ) (old new : S) : Type 0 where
   pub taken : IsAtEnd (left new) ⊎ TookAtMost (left old) (left new) (most_bytes + 1)
-  pub turns : calls new ≤ calls old + (most_bytes + 2)
+  pub turns : calls new ≤ calls old + (most_bytes + 1)
 
 -- the bytes are the JSON of no value
 abbrev pub IsNoJson : List ℕ → Type 0

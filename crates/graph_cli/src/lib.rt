@@ -4,7 +4,7 @@
 //! - `runs`, by status (`Runs`). With a status up to 5, the whole text of an answer was put that the words, the case and the
 //!   proof require (`outcome`), and its status returned. 6 comes only if a source that is read had a fault in this call, and 7
 //!   only if the sink had one. 8 comes with `no memory`. If no fault came, the status is up to 5, or 8; and with these statuses
-//!   no fault came. At most one put is made for each byte of a text, and one more. If a source doesn't expose its bytes, the
+//!   no fault came. At most one put is made for each byte of a text. If a source doesn't expose its bytes, the
 //!   answer is that of some bytes.
 //! - `case`, `proof`: a source that the words don't read stays as it was; one that they read was read to its end after status
 //!   0. The proof is read only after a case that the command can take. `case_taken`, `proof_taken`: how many bytes are taken at

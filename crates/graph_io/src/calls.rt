@@ -6,8 +6,8 @@ use std::marker::Model;
 
 /// How many calls were made. Only proofs read the number, and it takes no memory.
 #[derive(Drop)]
-pub(crate) struct CallCount {
-    pub(crate) ghost made: { ℕ },
+pub struct CallCount {
+    pub ghost made: { ℕ },
 }
 
 impl Model for CallCount {
@@ -15,7 +15,8 @@ impl Model for CallCount {
 }
 
 impl CallCount {
-    pub(crate) fn new() -> CallCount
+    /// Returns the count before any call.
+    pub fn new() -> CallCount
         ensures { result.made ≡ 0 }
     {
         CallCount {}
@@ -29,7 +30,7 @@ impl CallCount {
     }
 
     /// Counts a call.
-    pub(crate) fn rise(&mut self)
+    pub fn rise(&mut self)
         ensures { self.new.made ≡ self.old.made + 1 }
     {
         *self = self.next();

@@ -1,5 +1,5 @@
 //! Looks, and keepers of them.
-ghost use Rattle.std.specs.Prelude.{◌≡◌, ℕ, ◌<◌, ◌^◌, List as Seq, OnOk, OnErr};
+ghost use Rattle.std.specs.Prelude.{◌≡◌, ℕ, ◌<◌, ◌+◌, ◌^◌, List as Seq, OnOk, OnErr};
 ghost use Rattle.std.specs.declared.option.Option.{Option};
 ghost use Rattle.graph_io.specs.Keeping.{Loads, with_look, IsCaused};
 
@@ -34,7 +34,8 @@ impl From<NoMemory> for KeeperFault {
     }
 }
 
-/// A keeper of looks, in their order. It may expose them to contracts. It counts its failures, and the count never falls.
+/// A keeper of looks, in their order. It may expose them to contracts. It counts its calls, and its faults: those that failed.
+/// Neither count falls.
 pub trait Keeper {
     ghost use Rattle.graph_io.specs.declared.keeper.Look.{Look};
 
@@ -44,21 +45,26 @@ pub trait Keeper {
     /// How often a call failed.
     ghost faults: { Self → ℕ };
 
-    /// Appends all looks in their order to `into`. It is `Fault` only if the count rose, and then, as when out of memory,
-    /// `into` stays as it was. The looks stay in each case.
+    /// How many calls were made.
+    ghost calls: { Self → ℕ };
+
+    /// Appends all looks in their order to `into`. It is `Fault` only if the count of faults rose, and then, as when
+    /// out of memory, `into` stays as it was. The looks stay in each case.
     fn load(&mut self, alloc: Global, into: &mut List<Look>) -> Result<(), KeeperFault>
         ensures loaded { OnOk result (Loads (looks self.old) into.old into.new) }
         ensures unchanged { OnErr result (into.new ≡ into.old) }
         ensures kept { looks self.new ≡ looks self.old }
-        ensures cause { IsCaused (faults self.old) (faults self.new) result };
+        ensures cause { IsCaused (faults self.old) (faults self.new) result }
+        ensures turn { calls self.new ≡ calls self.old + 1 };
 
-    /// Puts a look after the others. It is `Fault` only if the count rose, and then, as when out of memory, the looks stay as
-    /// they were.
+    /// Puts a look after the others. It is `Fault` only if the count of faults rose, and then, as when out of memory,
+    /// the looks stay as they were.
     fn append(&mut self, alloc: Global, look: &Look) -> Result<(), KeeperFault>
         ensures appended { OnOk result (looks self.new ≡ with_look (looks self.old) look.now) }
         ensures kept { OnErr result (looks self.new ≡ looks self.old) }
-        ensures cause { IsCaused (faults self.old) (faults self.new) result };
+        ensures cause { IsCaused (faults self.old) (faults self.new) result }
+        ensures turn { calls self.new ≡ calls self.old + 1 };
 
-    /// The count stays below 2^64.
+    /// The count of faults stays below 2^64.
     ghost counted: { (k : Self) → faults k < 2 ^ 64 };
 }

@@ -3,7 +3,8 @@
 //! Proved:
 //! - `read_all`: `whole`, `ended`, `taken`, `later`, `clean`, `turns`. `write_all`: `bytes`, `cause`, `turns`.
 //! - `MemorySource`, `MemorySink`, `WholeText`, and `FailingSource` and `FailingSink`, whose constructors say which takes and puts
-//!   fail. `MemoryKeeper` and `FailingKeeper`, which keep looks in memory, and fail by plan.
+//!   fail. `MemoryKeeper` and `FailingKeeper`, which keep looks in memory, and fail by plan. `CallCount`, which counts calls for
+//!   proofs.
 //!
 //! Only tested: that the adapters `StdSource` and `StdSink` pass on the bytes of standard input and output. They are
 //! proved against the traits, which say how bytes and faults are reported, and nothing of the devices after.
@@ -27,6 +28,7 @@ mod whole_text;
 mod writing;
 
 pub use adapters::{StdSink, StdSource};
+pub use calls::CallCount;
 pub use failing_keeper::FailingKeeper;
 pub use failing_sink::FailingSink;
 pub use failing_source::FailingSource;

@@ -68,7 +68,7 @@ fn take_piece<S: Source>(source: &mut S, buf: &mut [u8]) -> Result<usize, Failed
 ///
 /// `Fault` comes only if the source's count of faults rose; with each other answer the count stays. `TooLong` comes only if
 /// exactly `limit + 1` bytes were taken. Before `Fault` at most `limit` bytes were taken, before `NoMemory` at most `limit +
-/// 1`. At most `limit + 2` takes are made.
+/// 1`. At most `limit + 1` takes are made.
 pub fn read_all<S: Source>(alloc: Global, source: &mut S, limit: u64) -> Result<List<u8>, ReadEnd>
     requires { limit ≤ 4194304 }
     ensures whole { IfOk result (ReadWhole limit (S.left source.old) (S.left source.new)) }
@@ -79,7 +79,7 @@ pub fn read_all<S: Source>(alloc: Global, source: &mut S, limit: u64) -> Result<
         (λ end. TookAtMost (S.left source.old) (S.left source.new) (most_taken limit end)) }
     ensures later { S.faults source.old ≤ S.faults source.new }
     ensures clean { IsClean (S.faults source.old) (S.faults source.new) result }
-    ensures turns { S.calls source.new ≤ S.calls source.old + (limit + 2) }
+    ensures turns { S.calls source.new ≤ S.calls source.old + (limit + 1) }
 {
     let most = limit as usize;
     let mut read = List::new(alloc);

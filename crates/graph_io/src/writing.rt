@@ -32,11 +32,11 @@ pub trait Sink {
 }
 
 /// Puts all bytes into a sink, after what it holds. After a failure a prefix of them is there, and the count of faults rose;
-/// else the count stays. At most one put a byte is made, and one more.
+/// else the count stays. At most one put a byte is made.
 pub fn write_all<W: Sink>(sink: &mut W, bytes: &[u8]) -> Result<(), Failed>
     ensures bytes { PutAll (W.held sink.old) (W.held sink.new) bytes.now result }
     ensures cause { HasCause (W.faults sink.old) (W.faults sink.new) result }
-    ensures turns { W.calls sink.new ≤ W.calls sink.old + (length bytes.now + 1) }
+    ensures turns { W.calls sink.new ≤ W.calls sink.old + length bytes.now }
 {
     let mut from = 0;
     'pieces: while from < bytes.len() {

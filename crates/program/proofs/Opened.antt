@@ -22,7 +22,7 @@ made_used left faults calls old new Reads status f c uses within = record {
   untouched = λ n. let same = uses.untouched n in (ap left same, ap faults same ∙ f, ap calls same ∙ c);
   end = uses.end;
   taken = within.taken;
-  turns = subst (λ n. calls new ≤ n + (most_bytes + 2)) c within.turns;
+  turns = subst (λ n. calls new ≤ n + (most_bytes + 1)) c within.turns;
 }
 
 module _ {O : Type 0} {words : List (List ℕ)} {case : Option (List ℕ)} {case_rose case_same : Type 0} {from to : O} {status : ℕ}
@@ -40,19 +40,23 @@ module _ {O : Type 0} {words : List (List ℕ)} {case : Option (List ℕ)} {case
 
   -- what `run_study` does over a file and a keeper that have had no fault
   pub made_study : {Does : O → Ask → O → Type 0} {looks_at : O → List ℕ → Option (List Look)} (kept held : Option (List Look))
-      (keeper_earlier keeper_faults : ℕ) → earlier ≡ 0 → keeper_earlier ≡ 0 → IsStored Does looks_at words from to kept held keeper_faults
+      (keeper_earlier keeper_faults keeper_before keeper_calls : ℕ) → earlier ≡ 0 → keeper_earlier ≡ 0 → keeper_before ≡ 0
+      → IsStored Does looks_at words from to kept held keeper_faults keeper_calls
       → (¬ study.AsksKeeper words case before → (held ≡ kept) × (keeper_faults ≡ 0))
+      → study.CallsWithin words case before keeper_before keeper_calls
       → IsUsed (study.ReadsCommands words case) before after faults calls status
       → Ran (over_keeper (study.study_outcome words case before kept) (study.MayEnd words case before kept)
       (study.ReadRose words case case_rose (Rose earlier faults)) (study.KeeperRose words case before (Rose keeper_earlier keeper_faults))
       (case_same × (faults ≡ earlier)) (keeper_faults ≡ keeper_earlier) kept held)
       → IsStudied Does looks_at words case case_rose case_same from to before after faults calls status Ran
-  made_study kept held keeper_earlier keeper_faults e k stored untouched used ran = record {
+  made_study kept held keeper_earlier keeper_faults keeper_before keeper_calls e k b stored untouched turns used ran = record {
     kept = kept;
     held = held;
     keeper_faults = keeper_faults;
+    keeper_calls = keeper_calls;
     stored = stored;
     untouched = untouched;
+    turns = subst (λ n. study.CallsWithin words case before n keeper_calls) b turns;
     used = used;
     ran = subst (λ n. Ran (over_keeper (study.study_outcome words case before kept) (study.MayEnd words case before kept)
         (study.ReadRose words case case_rose (Rose 0 faults)) (study.KeeperRose words case before (Rose n keeper_faults))

@@ -55,15 +55,15 @@ pub record IsUsed (Reads : Type 0) (before after : Option (List ℕ)) (faults ca
   pub untouched : ¬ Reads → (after ≡ before) × (faults ≡ 0) × (calls ≡ 0)
   pub end : Reads → status ≡ 0 → IsAtEnd after
   pub taken : IsAtEnd after ⊎ TookAtMost before after (most_bytes + 1)
-  pub turns : calls ≤ most_bytes + 2
+  pub turns : calls ≤ most_bytes + 1
 
--- The store that the words name was requested, and held the looks `kept`. It was given back with the looks `held`, and with the number of its faults.
--- If no store is named, none is requested, and there are no looks before and no faults.
+-- The store that the words name was requested, and held the looks `kept`. It was given back with the looks `held`, and with the number of its calls,
+-- and of those that failed. If no store is named, none is requested, there are no looks before and no faults, and the number of calls is left open.
 abbrev pub IsStored : {O : Type 0} → (O → Ask → O → Type 0) → (O → List ℕ → Option (List Look)) → List (List ℕ)
-    → O → O → (kept held : Option (List Look)) → ℕ → Type 0
-IsStored {O} Does looks_at words from to kept held faults =
+    → O → O → (kept held : Option (List Look)) → (faults calls : ℕ) → Type 0
+IsStored {O} Does looks_at words from to kept held faults calls =
     ((path : List ℕ) × study.NamesStore words path × (asked : O) × Does from (open_store path) asked × (kept ≡ looks_at from path)
-    × Does asked (close_store path held faults) to)
+    × Does asked (close_store path held faults calls) to)
     ⊎ (((path : List ℕ) → ¬ study.NamesStore words path) × (to ≡ from) × (kept ≡ Some []) × (faults ≡ 0))
 
 -- A call that is none of a study: what was done is what `run` does over the file. `Ran` says what was done in such ways.
@@ -80,9 +80,11 @@ pub record IsStudied {O : Type 0} (Does : O → Ask → O → Type 0) (looks_at 
   pub kept : Option (List Look)
   pub held : Option (List Look)
   pub keeper_faults : ℕ
-  pub stored : IsStored Does looks_at words from to kept held keeper_faults
+  pub keeper_calls : ℕ
+  pub stored : IsStored Does looks_at words from to kept held keeper_faults keeper_calls
   -- a store of which no looks are requested is as it was
   pub untouched : ¬ study.AsksKeeper words case before → (held ≡ kept) × (keeper_faults ≡ 0)
+  pub turns : study.CallsWithin words case before 0 keeper_calls
   pub used : IsUsed (study.ReadsCommands words case) before after faults calls status
   pub ran : Ran (over_keeper (study.study_outcome words case before kept) (study.MayEnd words case before kept)
       (study.ReadRose words case case_rose (Rose 0 faults)) (study.KeeperRose words case before (Rose 0 keeper_faults))

@@ -51,13 +51,15 @@ pub trait Opener {
         ensures asked { does self.old
             (close_file path.now (Self.File.left file) (Self.File.faults file) (Self.File.calls file)) self.new };
 
-    /// Opens the store at a path. It had no fault yet.
+    /// Opens the store at a path. It wasn't called yet, and had no fault.
     fn open_store(&mut self, path: &str) -> Result<Self::Store, NoMemory>
         ensures asked { does self.old (open_store path.now) self.new }
         ensures looks { IfOk result (λ store. Self.Store.looks store ≡ looks_at self.old path.now) }
-        ensures faults { IfOk result (λ store. Self.Store.faults store ≡ 0) };
+        ensures faults { IfOk result (λ store. Self.Store.faults store ≡ 0) }
+        ensures calls { IfOk result (λ store. Self.Store.calls store ≡ 0) };
 
     /// Takes back the store of a path.
     fn close_store(&mut self, path: &str, store: Self::Store)
-        ensures asked { does self.old (close_store path.now (Self.Store.looks store) (Self.Store.faults store)) self.new };
+        ensures asked { does self.old
+            (close_store path.now (Self.Store.looks store) (Self.Store.faults store) (Self.Store.calls store)) self.new };
 }

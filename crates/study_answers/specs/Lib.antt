@@ -1,4 +1,5 @@
 pub mod AnswerView
+pub mod Asking
 pub mod CommandFaults
 pub mod CommandLanguage
 pub mod CommandLines

@@ -1,5 +1,5 @@
 //! What a study answers.
-ghost use Rattle.std.specs.Prelude.{◌≡◌, ◌≤◌, ◌++◌, IfOk, ⊤, length, codes};
+ghost use Rattle.std.specs.Prelude.{◌≡◌, ◌≤◌, ◌+◌, ◌++◌, IfOk, ⊤, length, codes};
 ghost use Rattle.std.specs.List.{AllByRecursion};
 ghost use Rattle.graph_io.specs.Causes.{Rose};
 ghost use Rattle.answers.specs.Lines.{line, done, refused};
@@ -8,6 +8,7 @@ ghost use Rattle.case_model.specs.CaseView.{content};
 ghost use Rattle.refusals.specs.WideRefusal.{wide_refusal};
 ghost use Rattle.refusals.specs.declared.wide.When.TheVariants.{Look as AfterLook};
 ghost use Rattle.staged_levels.specs.StudyAnswers.{IsStaged};
+ghost use Rattle.study_answers.specs.Asking.{looks_asked};
 ghost use Rattle.study_answers.specs.CommandLines.{IsBelow};
 ghost use Rattle.study_answers.specs.AnswerView.{MayKeep};
 ghost use Rattle.study_answers.specs.StudyStages.{HasOpening, study_stage, on_looks};
@@ -41,6 +42,7 @@ fn opened<K: Keeper>(alloc: Global, case: &Case, keeper: &mut K) -> Result<Regis
         (K.faults keeper.new ≡ K.faults keeper.old) (K.looks keeper.old)) result }
     ensures kept { K.looks keeper.new ≡ K.looks keeper.old }
     ensures later { K.faults keeper.old ≤ K.faults keeper.new }
+    ensures turns { K.calls keeper.new ≤ K.calls keeper.old + 1 }
 {
     match Register::open(alloc, case, keeper) {
         Ok(register) => Ok(register),
@@ -80,7 +82,8 @@ fn ended(text: List<u8>) -> Result<Answer, NoMemory>
 /// and the looks before it stay kept.
 ///
 /// A refusal comes exactly if the opening of the case is undefined or a kept look can't be taken, and then no look is added.
-/// The keeper is asked once the opening of the case is defined.
+/// The keeper is asked once the opening of the case is defined. Its calls are at most one more than the looks that the commands
+/// ask for.
 pub fn study_answer<K: Keeper>(
     alloc: Global,
     case: &Case,
@@ -94,6 +97,7 @@ pub fn study_answer<K: Keeper>(
         ⊥ (HasOpening (content case.now) × Rose (K.faults keeper.old) (K.faults keeper.new))
         ⊤ (K.faults keeper.new ≡ K.faults keeper.old) (K.looks keeper.old) (K.looks keeper.new)) result }
     ensures later { K.faults keeper.old ≤ K.faults keeper.new }
+    ensures turns { K.calls keeper.new ≤ K.calls keeper.old + (1 + looks_asked commands.now) }
 {
     let mut register = opened(alloc, case, keeper)?;
     let mut text = opened_text(alloc, case, register.count())?;

@@ -7,7 +7,8 @@
 //! - `study_answer`: `ends` (`over_keeper`: it gives what the kept looks and the commands require, `study_stage`, and the
 //!   keeper holds its looks too). It is refused only for the opening of the case and for the kept looks, and then no look is
 //!   added. After a fault of the keeper, and out of memory, the looks of the commands up to some place may be added. `later`:
-//!   no count of faults falls.
+//!   no count of faults falls. `turns`: the keeper's calls are at most one more than the looks that
+//!   the commands ask for.
 //! - Laws in `src/laws.rt`:
 //!   - kept looks and commands have one answer; by any commands that are answered to their end, the rejections are those of the
 //!     staged closed test on all looks that are kept.

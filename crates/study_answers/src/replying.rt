@@ -1,10 +1,11 @@
 //! Replies to commands, one by one.
-ghost use Rattle.std.specs.Prelude.{◌≡◌, ◌≤◌, ◌<◌, [], ◌∷◌, OnOk, IfErr, false, length};
+ghost use Rattle.std.specs.Prelude.{◌≡◌, ◌≤◌, ◌<◌, ◌+◌, [], ◌∷◌, OnOk, IfErr, false, length};
 ghost use Rattle.std.specs.List.{AllByRecursion};
 ghost use Rattle.graph_io.specs.Causes.{Rose};
 ghost use Rattle.case_model.specs.CaseView.{content};
 ghost use Rattle.staged_levels.specs.StudyContents.{IsStudy};
 ghost use Rattle.study_answers.specs.CommandLines.{IsBelow};
+ghost use Rattle.study_answers.specs.Asking.{asks, looks_asked};
 ghost use Rattle.study_answers.specs.declared.command.StudyCommand.TheVariants.{Take as AskTake};
 ghost use Rattle.study_register.specs.RegisterView.{study_in, looks_in, is_spent};
 ghost use Rattle.study_answers.specs.AnswerView.{IsRepliedTo, AreRepliedTo, StopsCommands, IfBroken};
@@ -52,6 +53,7 @@ fn take<K: Keeper>(
     ensures later { K.faults keeper.old ≤ K.faults keeper.new }
     ensures counted { OnOk result (K.faults keeper.new ≡ K.faults keeper.old) }
     ensures broken { IfErr result (IfBroken (K.faults keeper.new ≡ K.faults keeper.old)) }
+    ensures turns { K.calls keeper.new ≤ K.calls keeper.old + 1 }
 {
     let before = register.settled().len();
     let place = register.next_place();
@@ -93,6 +95,7 @@ fn reply<K: Keeper>(
     ensures later { K.faults keeper.old ≤ K.faults keeper.new }
     ensures counted { OnOk result (K.faults keeper.new ≡ K.faults keeper.old) }
     ensures broken { IfErr result (IfBroken (K.faults keeper.new ≡ K.faults keeper.old)) }
+    ensures turns { K.calls keeper.new ≤ K.calls keeper.old + asks command.now }
 {
     match command {
         StudyCommand::Take(look) => take(alloc, case, register, keeper, number, look, text),
@@ -124,6 +127,7 @@ pub(crate) fn replies<K: Keeper>(
     ensures later { K.faults keeper.old ≤ K.faults keeper.new }
     ensures counted { OnOk result (K.faults keeper.new ≡ K.faults keeper.old) }
     ensures broken { IfErr result (IfBroken (K.faults keeper.new ≡ K.faults keeper.old)) }
+    ensures turns { K.calls keeper.new ≤ K.calls keeper.old + looks_asked commands.now }
 {
     for i in 0..commands.len() {
         if let Err(stop) = reply(alloc, case, register, keeper, i + 1, &commands[i], text) {

@@ -1,5 +1,5 @@
 -- What words, a case, commands and kept looks call for: the first stage that refuses decides.
-use Rattle.std.specs.Prelude.{◌≡◌, ◌⊎◌, ℕ, List, [], Option, Some, codes}
+use Rattle.std.specs.Prelude.{◌≡◌, ◌⊎◌, ◌≤◌, ◌+◌, ℕ, List, [], Option, Some, codes}
 use Rattle.graph_io.specs.declared.keeper.Look.{Look}
 use Rattle.answers.specs.declared.refusal.Refusal.{Refusal}
 use Rattle.answers.specs.Stages.{Stage, and_then, told_as, on_bytes, within}
@@ -13,6 +13,7 @@ use Rattle.graph_cli.specs.Accepted.{accepted}
 use Rattle.graph_cli.specs.Outcome.{AskStudy}
 use Rattle.graph_cli.specs.declared.kind.InputKind.TheVariants.{Awaited}
 use Rattle.graph_cli.specs.declared.needs.Needs.{Needs}
+use Rattle.study_answers.specs.Asking.{looks_asked}
 use Rattle.study_answers.specs.CommandLines.{AreCommands}
 use Rattle.study_answers.specs.CommandFaults.{IsFirstFault}
 use Rattle.study_answers.specs.declared.command.StudyCommand.{StudyCommand}
@@ -65,6 +66,12 @@ abbrev pub IsOpened : StudyAsked → Option (List ℕ) → Option (List ℕ) →
 IsOpened asked case commands = (c : Content) × (case_of asked case).Gives c
     × (list : List StudyCommand) × (commands_of c commands).Gives list × HasOpening c
 
+-- a keeper was not called; or the source denotes commands, and the calls are at most one more than the looks that they ask for
+abbrev pub IsCalledWithin : StudyAsked → Option (List ℕ) → Option (List ℕ) → (before now : ℕ) → Type 0
+IsCalledWithin asked case commands before now =
+    (now ≡ before) ⊎ ((c : Content) × (case_of asked case).Gives c × (list : List StudyCommand) × (commands_of c commands).Gives list
+    × (now ≤ before + (1 + looks_asked list)))
+
 -- the words ask a study for something
 abbrev pub ReadsCase : List (List ℕ) → Type 0
 ReadsCase words = (asked : StudyAsked) × AskStudy words asked
@@ -88,6 +95,11 @@ KeeperRose words case commands rose = (asked : StudyAsked) × AskStudy words ask
 -- the looks that may be kept also if a call with these words stops part way
 abbrev pub MayEnd : List (List ℕ) → Option (List ℕ) → Option (List ℕ) → Option (List Look) → List Look → Type 0
 MayEnd words case commands kept more = (more ≡ []) ⊎ ((asked : StudyAsked) × AskStudy words asked × MayBeKept asked case commands kept more)
+
+-- a keeper was not called; or the words ask a study for something, and `IsCalledWithin` bounds the calls
+abbrev pub CallsWithin : List (List ℕ) → Option (List ℕ) → Option (List ℕ) → (before now : ℕ) → Type 0
+CallsWithin words case commands before now =
+    (now ≡ before) ⊎ ((asked : StudyAsked) × AskStudy words asked × IsCalledWithin asked case commands before now)
 
 -- ---- the file of the looks
 

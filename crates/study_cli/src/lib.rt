@@ -11,7 +11,9 @@
 //!   status 0. The commands are read only after a case that a study can take, and the keeper is asked only after all commands
 //!   are accepted.
 //! - `case_taken`, `commands_taken`: of a source that isn't read to its end, at most one byte more than it may have is taken.
-//!   The takes are at most two more than the bytes that it may have.
+//!   The takes are at most one more than the bytes that it may have.
+//! - `turns`: the keeper is called only after all commands are accepted, and its calls are at most one more than the looks that
+//!   they ask for.
 //! - `store_path`: `path`, `none`.
 //! - Law in `src/laws.rt`: `studies_have_one_outcome`.
 #![tactic(auto)]

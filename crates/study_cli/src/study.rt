@@ -18,6 +18,7 @@ ghost use Rattle.study_cli.specs.StudyOutcome.{
   IsStudied,
   IsCommanded,
   IsOpened,
+  IsCalledWithin,
   MayBeKept,
   ReadsCase,
   ReadsCommands,
@@ -25,6 +26,7 @@ ghost use Rattle.study_cli.specs.StudyOutcome.{
   ReadRose,
   KeeperRose,
   MayEnd,
+  CallsWithin,
 };
 
 use answers::{Answer, Stop, conclude, take_whole};
@@ -83,6 +85,8 @@ fn study_call<S: Source, T: Source, K: Keeper>(
         keeper.new ≡ keeper.old }
     ensures case_taken { IsTakenWithin S.left S.calls case.old case.new }
     ensures commands_taken { IsTakenWithin T.left T.calls commands.old commands.new }
+    ensures turns { IsCalledWithin (study_asked call.now) (S.left case.old) (T.left commands.old)
+        (K.calls keeper.old) (K.calls keeper.new) }
 {
     let accepted = accepted_case(alloc, &call.form, study_needs(), case)?;
     let bytes = take_whole(alloc, b"commands ", commands)?;
@@ -119,6 +123,8 @@ fn answer<S: Source, T: Source, K: Keeper>(
         keeper.new ≡ keeper.old }
     ensures case_taken { IsTakenWithin S.left S.calls case.old case.new }
     ensures commands_taken { IsTakenWithin T.left T.calls commands.old commands.new }
+    ensures turns { CallsWithin (map string_bytes words.now) (S.left case.old) (T.left commands.old)
+        (K.calls keeper.old) (K.calls keeper.new) }
 {
     match read_study(words) {
         Err(n) => Err(Stop::Refused(usage(alloc, n)?)),
@@ -130,7 +136,8 @@ fn answer<S: Source, T: Source, K: Keeper>(
 /// `case` is standard input, and `commands` is the file that `file_word` names. `keeper` keeps the looks. `out` gets the text
 /// of the answer, or one line that says why there is none. A source that isn't read stays as it was. `commands` is read only
 /// after a case that a study can take, and `keeper` is asked only after all commands are accepted. Of a source that isn't read
-/// to its end, at most one byte more than it may have is taken.
+/// to its end, at most one byte more than it may have is taken. The calls of `keeper` are at most one more than the
+/// looks that the commands ask for.
 ///
 /// First the looks that are kept are taken in their order. Then each command is replied to: a look that is taken is kept, and
 /// one that is refused changes nothing.
@@ -166,6 +173,8 @@ pub fn run_study<S: Source, T: Source, K: Keeper, W: Sink>(
         keeper.new ≡ keeper.old }
     ensures case_taken { IsTakenWithin S.left S.calls case.old case.new }
     ensures commands_taken { IsTakenWithin T.left T.calls commands.old commands.new }
+    ensures turns { CallsWithin (map string_bytes words.now) (S.left case.old) (T.left commands.old)
+        (K.calls keeper.old) (K.calls keeper.new) }
 {
     let outcome = answer(alloc, words, case, commands, keeper);
     conclude(out, &outcome)

@@ -50,8 +50,8 @@ impl Register {
     /// Faults, unless out of memory or the keeper fails. It is `RegisterFault::Wide` at 0 exactly if the written opening is
     /// undefined. Else the first look that can't be taken is named. It is `RegisterFault::BadLook` exactly if that look names
     /// no hypothesis of the case or its arrival is refused. It is `RegisterFault::Wide` exactly if its settling stops part way.
-    /// Places count from 1. It is `RegisterFault::Fault` only if the case was opened and the keeper's count rose in this call;
-    /// with each other answer the count stays.
+    /// Places count from 1. It is `RegisterFault::Fault` only if the case was opened and the keeper's count of faults rose in
+    /// this call; with each other answer that count stays. The keeper is called once at most.
     pub fn open<K: Keeper>(
         alloc: Global,
         case: &Case,
@@ -67,6 +67,7 @@ impl Register {
         ensures later { K.faults keeper.old ≤ K.faults keeper.new }
         ensures counted { OnOk result (K.faults keeper.new ≡ K.faults keeper.old) }
         ensures steady { IfErr result (IfLooksRefused (K.faults keeper.new ≡ K.faults keeper.old)) }
+        ensures turns { K.calls keeper.new ≤ K.calls keeper.old + 1 }
     {
         let mut study = Study::open(alloc, case)?;
         let mut looks = List::new(alloc);
@@ -122,10 +123,10 @@ impl Register {
     /// the keeper. The register isn't spent.
     ///
     /// It is `AddFault::Refused` exactly if the arrival is refused, and then all is unchanged. It is `AddFault::Wide` exactly
-    /// if the settling stops part way. It is `AddFault::Fault` only if the look was taken and the keeper's count rose in this
-    /// call. It is `AddFault::NoMemory` if the keeper has no memory for it, and its count stays. After these three the looks of
-    /// the keeper are unchanged, and the register is spent. After `Wide` the look has arrived, and the rejections before the
-    /// undefined one stay. After the other two the look is taken.
+    /// if the settling stops part way. It is `AddFault::Fault` only if the look was taken and the keeper's count of faults
+    /// rose in this call. It is `AddFault::NoMemory` if the keeper has no memory for it, and that count stays. After these three
+    /// the looks of the keeper are unchanged, and the register is spent. After `Wide` the look has arrived, and the rejections
+    /// before the undefined one stay. After the other two the look is taken. The keeper is called once at most.
     pub fn add<K: Keeper>(
         &mut self,
         alloc: Global,
@@ -150,6 +151,7 @@ impl Register {
         ensures size { size_of (study_in self.new) ≡ size_of (study_in self.old) }
         ensures later { K.faults keeper.old ≤ K.faults keeper.new }
         ensures counted { OnOk result (K.faults keeper.new ≡ K.faults keeper.old) }
+        ensures turns { K.calls keeper.new ≤ K.calls keeper.old + 1 }
     {
         match take(&mut self.study, look) {
             Ok(()) => (),

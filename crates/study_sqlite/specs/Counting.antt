@@ -12,6 +12,10 @@ use Rattle.study_sqlite.specs.declared.keeper.SqliteKeeper.{SqliteKeeper}
 abbrev pub fault_count : SqliteKeeper → ℕ
 fault_count keeper = keeper.faults
 
+-- how many calls were made
+abbrev pub call_count : SqliteKeeper → ℕ
+call_count keeper = keeper.calls.made
+
 -- A refusal is reported as a fault, and the count is one more then; out of memory is reported as such, and the count stays.
 abbrev pub IsCounted : ℕ → ℕ → FileFault → KeeperFault → Type 0
 IsCounted before now Refused told = (told ≡ Fault) × (now ≡ count_up before)

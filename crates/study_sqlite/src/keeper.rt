@@ -1,24 +1,25 @@
 //! A keeper in a file.
-ghost use Rattle.std.specs.Prelude.{◌≡◌, ◌<◌, ◌^◌, None, IfOk, IfErr, OnOk, OnErr};
+ghost use Rattle.std.specs.Prelude.{◌≡◌, ◌<◌, ◌+◌, ◌^◌, None, IfOk, IfErr, OnOk, OnErr};
 
 use crate::storage::Storage;
 use crate::table::FileConnection;
 use crate::{Closed, FileFault};
 use field_core::List;
-use graph_io::{Keeper, KeeperFault, Look};
+use graph_io::{CallCount, Keeper, KeeperFault, Look};
 use std::alloc::Global;
 
-/// Looks in a file. They aren't reported. Each call that meets a refused statement, or a row that is not the row of a look, is
-/// counted.
+/// Looks in a file. They aren't reported. Each call is counted. One that meets a refused statement, or a row that is not the row
+/// of a look, is counted as a fault also.
 #[derive(Drop)]
 pub struct SqliteKeeper {
     storage: Storage,
     faults: u64,
+    calls: CallCount,
     ghost in_range: { faults < 2 ^ 64 },
 }
 
 impl SqliteKeeper {
-    ghost use Rattle.study_sqlite.specs.Counting.{fault_count, IsCounted};
+    ghost use Rattle.study_sqlite.specs.Counting.{fault_count, call_count, IsCounted};
     ghost use Rattle.study_sqlite.specs.Storing.{storage_of, IsClosed, IsCloseFault};
     ghost use Rattle.study_sqlite.specs.declared.storage.Storage.TheVariants.{Unopened, Opened};
 
@@ -26,10 +27,12 @@ impl SqliteKeeper {
     pub fn new(connection: FileConnection) -> SqliteKeeper
         ensures storage { storage_of result ≡ Opened connection }
         ensures faults { fault_count result ≡ 0 }
+        ensures calls { call_count result ≡ 0 }
     {
         SqliteKeeper {
             storage: Storage::Opened(connection),
             faults: 0,
+            calls: CallCount::new(),
         }
     }
 
@@ -38,10 +41,12 @@ impl SqliteKeeper {
     pub fn at(rt: &HostRuntime, path: String) -> SqliteKeeper
         ensures storage { storage_of result ≡ Unopened rt.now path }
         ensures faults { fault_count result ≡ 0 }
+        ensures calls { call_count result ≡ 0 }
     {
         SqliteKeeper {
             storage: Storage::Unopened(*rt, path),
             faults: 0,
+            calls: CallCount::new(),
         }
     }
 
@@ -52,14 +57,14 @@ impl SqliteKeeper {
         ensures closed { IfOk result (IsClosed (storage_of self)) }
         ensures why { IfErr result (IsCloseFault (storage_of self)) }
     {
-        let SqliteKeeper { storage, faults: _ } = self;
-        storage.close()
+        self.storage.close()
     }
 
     /// Counts a fault of the file, unless memory was exhausted.
     fn counted(&mut self, fault: FileFault) -> KeeperFault
         ensures counted { IsCounted (fault_count self.old) (fault_count self.new) fault result }
         ensures storage { storage_of self.new ≡ storage_of self.old }
+        ensures calls { call_count self.new ≡ call_count self.old }
     {
         match fault {
             FileFault::Refused => {
@@ -73,12 +78,14 @@ impl SqliteKeeper {
 
 impl Keeper for SqliteKeeper {
     ghost use Rattle.graph_io.specs.Keeping.{Loads, IsCaused};
-    ghost use Rattle.study_sqlite.specs.Counting.{fault_count, OnFault, OnNoMemory};
+    ghost use Rattle.study_sqlite.specs.Counting.{fault_count, call_count, OnFault, OnNoMemory};
     ghost use Rattle.study_sqlite.specs.Storing.{storage_of, IsLoaded, IsAppended, IsLoadRefused, IsAppendRefused, IsLoadCut, IsAppendCut};
 
     ghost looks = { λ k. None };
 
     ghost faults = { fault_count };
+
+    ghost calls = { call_count };
 
     ghost counted = { λ k. k.in_range };
 
@@ -88,10 +95,12 @@ impl Keeper for SqliteKeeper {
         ensures loaded { OnOk result (Loads None into.old into.new) }
         ensures unchanged { OnErr result (into.new ≡ into.old) }
         ensures cause { IsCaused (fault_count self.old) (fault_count self.new) result }
+        ensures turn { call_count self.new ≡ call_count self.old + 1 }
         ensures looks { OnOk result (IsLoaded (storage_of self.old) (storage_of self.new) into.old into.new) }
         ensures why { IfErr result (OnFault (IsLoadRefused (storage_of self.old) (storage_of self.new))) }
         ensures memory { IfErr result (OnNoMemory (IsLoadCut (storage_of self.old) (storage_of self.new))) }
     {
+        self.calls.rise();
         match self.storage.looks(alloc) {
             Ok(looks) => into.append(looks.as_slice())?,
             Err(fault) => return Err(self.counted(fault)),
@@ -103,10 +112,12 @@ impl Keeper for SqliteKeeper {
     /// the disk returned what was written.
     fn append(&mut self, alloc: Global, look: &Look) -> Result<(), KeeperFault>
         ensures cause { IsCaused (fault_count self.old) (fault_count self.new) result }
+        ensures turn { call_count self.new ≡ call_count self.old + 1 }
         ensures look { OnOk result (IsAppended (storage_of self.old) (storage_of self.new) look.now) }
         ensures why { IfErr result (OnFault (IsAppendRefused (storage_of self.old) (storage_of self.new) look.now)) }
         ensures memory { IfErr result (OnNoMemory (IsAppendCut (storage_of self.old) (storage_of self.new) look.now)) }
     {
+        self.calls.rise();
         match self.storage.keep(alloc, look) {
             Ok(()) => Ok(()),
             Err(fault) => Err(self.counted(fault)),

@@ -12,16 +12,17 @@
 //! - `looks_in` and `keep_in` of `kept`: the table is made, and then all rows are shown and read, or the row of the look is put
 //!   there (`kept`, `put`). They are refused only if one of the two statements was, or for a row that is not the row of a look
 //!   (`why`).
-//! - `SqliteKeeper` is a `Keeper` that doesn't expose its looks. A fault comes only if its count rose, and else the count
-//!   stays. A refused load leaves the list as it was. After a successful `load`, the looks of all rows that the file showed
-//!   follow the others (`looks`). After a successful `append`, the row of the look was put into the file (`look`). Both report
-//!   a fault only if the file isn't open then, or a statement gave an error. `load` also reports one if the file showed a row
-//!   that is not the row of a look (`why`). When out of memory, no statement ran but those of the call. The one that puts a
-//!   row did not run, or gave this error (`memory`, also of `rows`, `looks_in` and `keep_in`). Each refusal by an open file is
-//!   reported as a fault, and out of memory as such (`counted`). One that is made `at` a path isn't open yet, and a `new` one is
-//!   over its connection (`storage`). Its `close` gives back the log and the database file of a connection, or reports an error
-//!   of the connection's close (`why`). The last commit is in the database file then, alone and also after a crash (`closed`).
-//!   For a file that was never opened there is neither.
+//! - `SqliteKeeper` is a `Keeper` that doesn't expose its looks. It counts its calls (`turn`). A fault comes only if its
+//!   count of faults rose, and else that count stays. A refused load leaves the list as it was. After a successful `load`,
+//!   the looks of all rows that the file showed follow the others (`looks`). After a successful `append`, the row of the
+//!   look was put into the file (`look`). Both report a fault only if the file isn't open then, or a statement gave an
+//!   error. `load` also reports one if the file showed a row that is not the row of a look (`why`). When out of memory, no
+//!   statement ran but those of the call. The one that puts a row did not run, or gave this error (`memory`, also of
+//!   `rows`, `looks_in` and `keep_in`). Each refusal by an open file is reported as a fault, and out of memory as such
+//!   (`counted`). One that is made `at` a path isn't open yet, and a `new` one is over its connection (`storage`). Its
+//!   `close` gives back the log and the database file of a connection, or reports an error of the connection's close
+//!   (`why`). The last commit is in the database file then, alone and also after a crash (`closed`). For a file that was
+//!   never opened there is neither.
 //! - Laws in `src/laws.rt`: rows and looks correspond one to one (`rows_and_looks_correspond`). Rows are read as looks in one
 //!   way, or have one first bad row, and not both (`rows_have_one_reading`).
 //!

@@ -1,9 +1,10 @@
-use Rattle.std.proofs.Common.{rules, ◌≡◌, ◌≤◌, ◌+◌, [], ◌∷◌, refl, ◌∙◌, subst, drop, length}
+use Rattle.std.proofs.Common.{rules, arith, ◌≡◌, ◌≤◌, ◌+◌, [], ◌∷◌, refl, ap, ◌∙◌, subst, drop, length}
 use Rattle.std.proofs.lemmas.List.{drop_all}
 use Rattle.graph_io.specs.Causes.{Rose}
 use Rattle.case_model.specs.CaseView.{content}
 use Rattle.study_register.specs.RegisterView.{looks_in}
 use Rattle.study_answers.specs.AnswerView.{StopsCommands}
+use Rattle.study_answers.specs.Asking.{looks_asked}
 use Rattle.study_answers.proofs.CommandsReplied.{begun, one_more, all_replied, stops_on, broken_weaker, next_command, below_at}
 use Rattle.study_answers.proofs.replying.replies.Goals as goal
 
@@ -27,6 +28,8 @@ loop-i-preserved g c =
       study = c.reply.ensures.study;
       fresh = c.in_default.ensures.fresh;
       same = c.in_default.ensures.counted ∙ l.invariant.same;
+      turns =
+          omega (arith, ap looks_asked (next_command commands l.i at c.loop-i-test.true c.index-commands-i.is), c.reply.ensures.turns, l.invariant.turns);
     }
 
 pub returns-in-Err-clause-stopped : goal.returns-in-Err-clause-stopped
@@ -51,6 +54,7 @@ loop-i-init g c = record {
   study = c.requires.study;
   fresh = c.requires.fresh;
   same = refl;
+  turns = omega arith;
 }
 
 pub returns-in-Err-clause-broken : goal.returns-in-Err-clause-broken
@@ -59,6 +63,17 @@ returns-in-Err-clause-broken g c =
     let now = faults c.reply.new.keeper in
     broken_weaker c.in-Err.stop (now ≡ faults c.loop-i.keeper) (now ≡ faults c.args.keeper.now)
     (λ e. e ∙ c.loop-i.invariant.same) c.in-Err.ensures.broken
+
+pub returns-in-Err-clause-turns : goal.returns-in-Err-clause-turns
+returns-in-Err-clause-turns g c =
+    let l = c.loop-i in
+    let commands = c.args.commands.now in
+    omega (
+      arith,
+      ap looks_asked (next_command commands l.i c.index-commands-i.result c.loop-i-test.true c.index-commands-i.is),
+      c.reply.ensures.turns,
+      l.invariant.turns,
+    )
 
 pub returns-clause-replied : goal.returns-clause-replied
 returns-clause-replied g c =

@@ -1,7 +1,8 @@
-use Rattle.std.proofs.Common.{◌≡◌, ◌+◌, drop, false}
+use Rattle.std.proofs.Common.{◌≡◌, ◌≤◌, ◌+◌, drop, false}
 use Rattle.case_model.specs.CaseView.{content}
 use Rattle.staged_levels.specs.StudyContents.{IsStudy}
 use Rattle.study_register.specs.RegisterView.{study_in, looks_in, is_spent}
+use Rattle.study_answers.specs.Asking.{looks_asked}
 use Rattle.study_answers.proofs.CommandsReplied.{AreSoFar}
 use Rattle.study_answers.proofs.replying.replies.Given as goal
 
@@ -13,4 +14,5 @@ invariant-loop-i g l = record {
   study : IsStudy (content l.case) (study_in l.register);
   fresh : is_spent l.register ≡ false;
   same : g.K.Keeper.faults l.keeper ≡ g.K.Keeper.faults l.initial.keeper;
+  turns : g.K.Keeper.calls l.keeper + looks_asked (drop l.i l.commands) ≤ g.K.Keeper.calls l.initial.keeper + looks_asked l.commands;
 }

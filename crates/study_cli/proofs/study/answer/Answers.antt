@@ -1,4 +1,4 @@
-use Rattle.std.proofs.Common.{inl, refl, map, sym, []}
+use Rattle.std.proofs.Common.{inl, inr, refl, map, sym, []}
 use Rattle.std.specs.Prelude.{string_bytes}
 use Rattle.answers.proofs.Stopping.{handed_on}
 use Rattle.command_words.specs.Asked.{study_asked}
@@ -24,3 +24,6 @@ returns-in-Ok-clause-commands_kept g c = λ none. c.study_call.ensures.commands_
 
 pub returns-in-Ok-clause-keeper_kept : goal.returns-in-Ok-clause-keeper_kept
 returns-in-Ok-clause-keeper_kept g c = λ none. c.study_call.ensures.keeper_kept (λ s. none (study_asked c.in-Ok.call, (sym c.in-Ok.ensures), s))
+
+pub returns-in-Ok-clause-turns : goal.returns-in-Ok-clause-turns
+returns-in-Ok-clause-turns g c = inr (study_asked c.in-Ok.call, sym c.in-Ok.ensures, c.study_call.ensures.turns)

@@ -1,4 +1,4 @@
-use Rattle.std.proofs.Common.{refl}
+use Rattle.std.proofs.Common.{refl, inr}
 use Rattle.answers.proofs.Stopping.{handed_on}
 use Rattle.case_model.specs.CaseView.{content}
 use Rattle.command_words.specs.Asked.{study_asked}
@@ -61,3 +61,15 @@ returns-clause-keeper_kept g c =
     let taken = rw c.study_needs.ensures at c.in_ok-accepted.ensures.ends.0 in
     let said = rw c.as_slice.ensures at c.in_ok-list.ensures.ends in
     λ none. absurd (none (content c.in_ok-accepted.accepted, taken, c.in_ok-list.list, (c.in_ok-bytes.bytes, c.in_ok-bytes.ensures.ends.0, said)))
+
+pub returns-clause-turns : goal.returns-clause-turns
+returns-clause-turns g c =
+    let taken = rw c.study_needs.ensures at c.in_ok-accepted.ensures.ends.0 in
+    let said = rw c.as_slice.ensures at c.in_ok-list.ensures.ends in
+    inr (
+      content c.in_ok-accepted.accepted,
+      taken,
+      c.in_ok-list.list,
+      (c.in_ok-bytes.bytes, c.in_ok-bytes.ensures.ends.0, said),
+      rw c.as_slice-2.ensures at c.study_answer.ensures.turns,
+    )
