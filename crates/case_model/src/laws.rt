@@ -115,7 +115,7 @@ pub fn priority_orders_exist()
 {}
 
 /// What the closed test rejects of one or two hypotheses: facts that show what the definitions say.
-#[tactic(auto, using(crate::proofs::ExampleTests::halves_are_valid, crate::proofs::ExampleTests::only_first, crate::proofs::ExampleTests::both_linked, crate::proofs::ExampleTests::nothing_rejected))]
+#[tactic(auto, using(crate::proofs::ExampleTests::small_tests))]
 pub fn small_closed_tests()
     ensures valid { HalvesAreValid }
     ensures apart { OnlyFirstHalfIsRejected }

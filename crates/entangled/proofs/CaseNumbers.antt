@@ -12,3 +12,6 @@ plain_opening c e = rw e refl
 pub other_opening : (c : Content) → is_plain c ≡ false → case_opening c ≡ ok_map (state_of in_quotients) (opening_in in_quotients c)
 unfolding case_opening numbers_of
 other_opening c e = rw e refl
+
+-- the opening of a case by its numbers
+pub ruleset openings = (plain_opening, other_opening)

@@ -67,7 +67,7 @@ impl CaseNet {
     /// component are gathered.
     ///
     /// Unless out of memory, it is `OpenFault::Wide` exactly if the written opening is undefined.
-    #[tactic(auto, unfolding(crate::specs::CaseNetView::case_state), using(crate::proofs::CaseNumbers::plain_opening, crate::proofs::CaseNumbers::other_opening))]
+    #[tactic(auto, unfolding(crate::specs::CaseNetView::case_state), using(crate::proofs::CaseNumbers::openings))]
     pub fn load(alloc: Global, case: &Case) -> Result<CaseNet, OpenFault>
         ensures opened { Opens case_state result (case_opening (content case.now)) }
         ensures plain { IfOk result (λ n. is_of_fractions n ≡ is_plain (content case.now)) }

@@ -80,7 +80,7 @@ pub fn net<N: ComponentNet>(alloc: Global, case: &Case, c: usize) -> Result<N, O
 }
 
 /// Returns the nets of a case.
-#[tactic(auto, using(crate::proofs::LoadSteps::no_states, crate::proofs::LoadSteps::next_state, crate::proofs::LoadSteps::states_refused, crate::proofs::LoadSteps::all_states))]
+#[tactic(auto, using(crate::proofs::LoadSteps::state_steps))]
 pub fn nets<N: ComponentNet>(alloc: Global, case: &Case) -> Result<List<N>, OpenFault>
     requires { CanRunIn N.numbers (content case.now) }
     ensures { Opens (map N.state) result (loaded_states N.numbers (length (content case.now).names) (content case.now).components) }

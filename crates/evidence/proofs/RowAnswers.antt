@@ -2,7 +2,7 @@
 use Rattle.std.proofs.Common.{◌≡◌, refl, sym, ap, ap₂, ◌∙◌, ℕ, zero, suc, ◌+◌, List, [], ◌∷◌, ◌++◌, map, get_or, set, replicate}
 use Rattle.std.proofs.Common.{length, zero-add}
 use Rattle.std.proofs.Math.ListN.{get_or-map}
-use Rattle.std.proofs.lemmas.List.{map-set}
+use Rattle.std.proofs.lemmas.List.{map-set, map_push, replicate_more}
 use Rattle.std.proofs.lemmas.List.FromFn.{map-range_with_len_more}
 use Rattle.std.specs.List.{range_with_len}
 use Rattle.field_core.specs.Kind.{Parts}
@@ -30,3 +30,8 @@ range_more f n = map-range_with_len_more f 0 n n (zero-add n)
 -- a number put in a row
 pub put_seen : {A B : Type 0} (f : A → B) (xs : List A) (r : ℕ) (x : A) → map f (set xs r x) ≡ set (map f xs) r (f x)
 put_seen f xs r x = map-set f xs r x
+
+-- the rows of the tables before the first step
+pub ruleset unit_steps = (range_more, put_seen)
+
+pub ruleset zero_steps = (replicate_more, map_push)

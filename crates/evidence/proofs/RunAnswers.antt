@@ -26,6 +26,7 @@ use Rattle.sequential.specs.declared.fault.RunFault.{RunFault}
 use Rattle.sequential.specs.declared.fault.RunFault.TheVariants.{Wide as MakeWide, NoMemory as MakeNoMemory}
 use Rattle.evidence.specs.Made.{Makes, MakesAll, fault_in, fault_at}
 use Rattle.evidence.proofs.RowAnswers.{row_is}
+use Rattle.evidence.proofs.TableAnswers.{each_none, each_more}
 
 module _ {F : Type 0} (K : Kind) (parts : F → Parts) where
   -- what flows in a component through these hypotheses
@@ -182,3 +183,6 @@ module _ {S : Type 0} (K : Kind) (graph : S → StoredGraph) (removal : S → �
   evidence_done r xs h f =
       ap (λ q. q >>= λ r. Ok (record { steps = r.steps; keeps = map (kept_exits K r.tables js) (others (size graph b) js) })) (same_run ∙ h)
       ∙ ap (λ zs. Ok (record { steps = r.steps; keeps = zs })) (sym (f ∙ ap (map (kept_exits K r.tables js)) e))
+
+-- the steps of the tables of all components
+pub ruleset all_steps = (each_none, each_more, all_refused, all_done)

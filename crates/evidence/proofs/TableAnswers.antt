@@ -5,6 +5,7 @@ use Rattle.field_core.specs.declared.place.Wide.{Wide}
 use Rattle.field_core.specs.Kind.{Parts, Kind}
 use Rattle.field_core.specs.Steps.{◌>>=◌, each_below}
 use Rattle.field_core.specs.Laws.Prefixes.{each_suc}
+use Rattle.field_core.proofs.Fills.{each_fault}
 use Rattle.std.proofs.Common.{add-one}
 use Rattle.std.proofs.lemmas.List.{map_push}
 use Rattle.removal.specs.StoredGraph.{StoredGraph, size, edge}
@@ -147,3 +148,6 @@ module _ (K : Kind) (G : StoredGraph) (j : ℕ) (earlier : List ℕ) where
         pub tables_done : (es : List (List Parts)) → if_wanted is_kept t.exits (each_below (size G) (new_exits K G j earlier t.exits)) ≡ Ok es
             → new_tables K G j earlier t is_last is_kept ≡ Ok (record { flows = ys; visits = vs; exits = es })
         tables_done es e = rw (tables_by, h, k, e) refl
+
+-- the steps of rows that are made one after another
+pub ruleset row_steps = (each_none, each_more, each_fault)

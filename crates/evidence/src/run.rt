@@ -112,7 +112,7 @@ fn component_tables<R: Remover>(
 }
 
 /// Returns the tables of all components after a step.
-#[tactic(auto, using(crate::proofs::TableAnswers::each_none, crate::proofs::TableAnswers::each_more, crate::proofs::RunAnswers::all_refused, crate::proofs::RunAnswers::all_done))]
+#[tactic(auto, using(crate::proofs::RunAnswers::all_steps))]
 fn all_tables<R: Remover>(
     alloc: Global,
     bundle: &Bundle<R>,

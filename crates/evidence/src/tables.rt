@@ -230,7 +230,7 @@ fn new_exits<R: Remover>(
 }
 
 /// Returns the rows of what each hypothesis sends.
-#[tactic(auto, using(crate::proofs::TableAnswers::each_none, crate::proofs::TableAnswers::each_more, field_core::proofs::Fills::each_fault))]
+#[tactic(auto, using(crate::proofs::TableAnswers::row_steps))]
 fn all_visits<R: Remover>(
     alloc: Global,
     net: &R,
@@ -250,7 +250,7 @@ fn all_visits<R: Remover>(
 }
 
 /// Returns the rows of the exits to each hypothesis.
-#[tactic(auto, using(crate::proofs::TableAnswers::each_none, crate::proofs::TableAnswers::each_more, field_core::proofs::Fills::each_fault))]
+#[tactic(auto, using(crate::proofs::TableAnswers::row_steps))]
 fn all_exits<R: Remover>(
     alloc: Global,
     net: &R,
@@ -270,7 +270,7 @@ fn all_exits<R: Remover>(
 }
 
 /// Returns a row for each hypothesis: 1 at itself, and else 0.
-#[tactic(auto, unfolding(crate::specs::FlowTables::first_tables), using(crate::proofs::RowAnswers::range_more, crate::proofs::RowAnswers::put_seen))]
+#[tactic(auto, unfolding(crate::specs::FlowTables::first_tables), using(crate::proofs::RowAnswers::unit_steps))]
 fn unit_rows<F: Number>(alloc: Global, size: usize) -> Result<List<List<F>>, NoMemory>
     ensures { IfOk result (λ rows. map (map F.parts) rows ≡ (first_tables F.kind size).visits) }
 {
@@ -284,7 +284,7 @@ fn unit_rows<F: Number>(alloc: Global, size: usize) -> Result<List<List<F>>, NoM
 }
 
 /// Returns a row of zeros for each hypothesis.
-#[tactic(auto, unfolding(crate::specs::FlowTables::first_tables), using(std::proofs::lemmas::List::replicate_more, std::proofs::lemmas::List::map_push))]
+#[tactic(auto, unfolding(crate::specs::FlowTables::first_tables), using(crate::proofs::RowAnswers::zero_steps))]
 fn zero_rows<F: Number>(alloc: Global, size: usize) -> Result<List<List<F>>, NoMemory>
     ensures { IfOk result (λ rows. map (map F.parts) rows ≡ (first_tables F.kind size).exits) }
 {

@@ -75,3 +75,6 @@ module _ (K : Kind) (component : ℕ → ℕ) (place : Place) (start : Parts) (f
 
   pub added_end : (n m : ℕ) (s : Parts) → n ≡ m → added K component place start f g n ≡ Ok s → Ok s ≡ added K component place start f g m
   added_end n m s e h = sym h ∙ ap (added K component place start f g) e
+
+-- the steps of a sum of products
+pub ruleset added_steps = (added_none, added_next, added_refused)

@@ -77,7 +77,7 @@ pub fn with_product<F: Number>(
 }
 
 /// Returns a start, and the products of what `x` and `y` give at 0, 1, .. below `count` added to it one after another.
-#[tactic(auto, using(crate::proofs::AddedSteps::added_none, crate::proofs::AddedSteps::added_next, crate::proofs::AddedSteps::added_refused))]
+#[tactic(auto, using(crate::proofs::AddedSteps::added_steps))]
 pub fn added<F: Number, X: Fn(usize) -> F, Y: Fn(usize) -> F>(
     component: usize,
     place: Place,

@@ -105,3 +105,6 @@ zero_plus x y e = zero_plus_terms (short_terms x) (short_terms y) x.valid y.vali
 
 pub plus_zero : (x y : ShortRatio) → y.num ≡ pos 0 → Some (short_terms x) ≡ written_add (short_terms x) (short_terms y)
 plus_zero x y e = plus_zero_terms (short_terms x) (short_terms y) x.valid y.valid e
+
+-- products with 0
+pub ruleset zero_products = (zero_times, times_zero)

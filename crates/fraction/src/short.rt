@@ -50,7 +50,7 @@ impl ShortRatio {
     }
 
     /// Returns the written product, which is never refused.
-    #[tactic(auto, using(crate::proofs::AtOnce::zero_times, crate::proofs::AtOnce::times_zero), unfolding(crate::specs::Written::written_mul))]
+    #[tactic(auto, using(crate::proofs::AtOnce::zero_products), unfolding(crate::specs::Written::written_mul))]
     #[inline(never)]
     pub fn times(self, other: ShortRatio) -> Ratio
         ensures { Some (terms result) ≡ written_mul (short_terms self) (short_terms other) }

@@ -40,3 +40,6 @@ number_below most text n f b = let p : 10 ^ length text ≤ 10 ^ most = pow-le-p
 -- a text writes at most one number
 pub one_number : (most : ℕ) (text : List ℕ) (m n : ℕ) → WritesNumber most text m → WritesNumber most text n → m ≡ n
 one_number most text m n h k = h.writes ∙ sym k.writes
+
+-- the answers of `whole_number`
+pub ruleset whole_numbers = (empty_none, long_none, other_none, are_digits, number_found, number_below)

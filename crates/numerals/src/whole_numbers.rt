@@ -14,7 +14,7 @@ pub fn are_digits(text: &[u8]) -> bool
 }
 
 /// Returns the number that a text of 1 to `most` digits writes.
-#[tactic(auto, using(crate::proofs::WholeNumbers::empty_none, crate::proofs::WholeNumbers::long_none, crate::proofs::WholeNumbers::other_none, crate::proofs::WholeNumbers::are_digits, crate::proofs::WholeNumbers::number_found, crate::proofs::WholeNumbers::number_below))]
+#[tactic(auto, using(crate::proofs::WholeNumbers::whole_numbers))]
 pub fn whole_number(text: &[u8], most: usize) -> Option<u128>
     requires { most ≤ 38 }
     ensures found { IfSome result (WritesNumber most text.now) }

@@ -102,3 +102,6 @@ module _ (G : StoredGraph) (row : Option ℕ) where
   pub common_fault : (r : Result ℤ Wide) (n k : ℕ) (b : ℤ) (w : Wide) → r ≡ Err w → k < n → common_below G row k ≡ Ok b
       → Err w ≡ with_denominator G row k b → r ≡ common_below G row n
   common_fault r n k b w g h e f = g ∙ sym (fault n k b w h e (sym f))
+
+-- the numbers of rows, as they are given
+pub ruleset numbers_given = (size_given, weight_given, edge_given, loop_given)

@@ -67,7 +67,7 @@ impl GivenGraph<'_> {
     }
 
     /// Returns a number of a row: of the weights, or of the edges from a hypothesis.
-    #[tactic(auto, using(crate::proofs::Given::size_given, crate::proofs::Given::weight_given, crate::proofs::Given::edge_given, crate::proofs::Given::loop_given))]
+    #[tactic(auto, using(crate::proofs::Given::numbers_given))]
     fn number(&self, row: Option<usize>, k: usize) -> EpsQuotient
         requires row { IfSome row (λ l. l < size self.now) }
         requires k { k < size self.now }

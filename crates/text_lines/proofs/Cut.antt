@@ -160,3 +160,8 @@ words_next line word after e f h =
     words_after_blanks line ∙ words_cut (after_blanks line)
     (omega (arith, ap length e, length-take (position_or_len is_blank (after_blanks line)) (after_blanks line)))
     ∙ ap₂ (λ (x : List ℕ) (y : List ℕ). x ∷ words_of y) (sym e) (sym f)
+
+-- the rows of a line, and the words of a line that is cut at its first word
+pub ruleset kept_rows = (kept_skip, kept_take, kept_nil)
+
+pub ruleset next_words = (words_end, words_ended, words_next)

@@ -10,7 +10,7 @@ use Rattle.std.proofs.lemmas.List.Splits.{slice_split-cons_yes, slice_split-cons
 use Rattle.text_lines.specs.Lines.{is_line_feed, whole_lines, lines_of, begins_comment, is_skipped, kept_after, Row}
 use Rattle.text_lines.specs.Words.{is_blank, words_of, is_word, after_blanks, behind_word}
 use Rattle.text_lines.specs.Spelling.{spaced, line_spelt, text_of, IsPlain, IsWord, IsNoComment, IsLine, numbered}
-use Rattle.text_lines.proofs.Cut.{kept_take, kept_nil, whole_cons, drop_past}
+use Rattle.text_lines.proofs.Cut.{kept_take, kept_nil, whole_cons, drop_past, words_blank}
 
 plain_blank : (b : ℕ) → IsPlain b → is_blank b ≡ false
 plain_blank b h = ap₂ (λ x y. x || y) (ne_eqb b 32 h.space) (ne_eqb b 9 h.tab)
@@ -190,3 +190,6 @@ kept_text n (line ∷ lines) h = kept_take n (line_spelt line) (map line_spelt l
 
 pub rows_of_text : (lines : List (List (List ℕ))) → AllByRecursion IsLine lines → kept_after 0 (lines_of (text_of lines)) ≡ numbered 0 lines
 rows_of_text lines h = ap (kept_after 0) (lines_of_text lines h) ∙ kept_text 0 lines h
+
+-- where words end
+pub ruleset word_ends = (words_of_word, behind_spelt, words_blank, behind_blank, words_before_blank)

@@ -15,7 +15,7 @@ pub fn spelt_lines_read_back()
 
 /// The first word is what is before the first blank, a space or a tab. All after it is the rest of the line, and blanks in
 /// front of that, or at the end of a line, change no word.
-#[tactic(auto, using(crate::proofs::Spelt::words_of_word, crate::proofs::Spelt::behind_spelt, crate::proofs::Cut::words_blank, crate::proofs::Spelt::behind_blank, crate::proofs::Spelt::words_before_blank))]
+#[tactic(auto, using(crate::proofs::Spelt::word_ends))]
 pub fn words_end_at_blanks()
     ensures word { (b : ℕ) (word rest : List ℕ) → is_blank b ≡ true → IsWord word
         → words_of (word ++ b ∷ rest) ≡ word ∷ words_of rest }

@@ -118,7 +118,7 @@ impl<'a> Iterator for Lines<'a> {
     ghost remaining = { item_count rows_left };
 
     /// Returns the next line that isn't skipped.
-    #[tactic(auto, using(crate::proofs::Cut::kept_skip, crate::proofs::Cut::kept_take, crate::proofs::Cut::kept_nil), unfolding(crate::specs::Lines::rows_left, crate::specs::Lines::end_at))]
+    #[tactic(auto, using(crate::proofs::Cut::kept_rows), unfolding(crate::specs::Lines::rows_left, crate::specs::Lines::end_at))]
     fn next(&mut self) -> Option<Line<'a>> {
         while let Some(text) = self.take_line() {
             if !is_skipped(text) {
