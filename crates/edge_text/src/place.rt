@@ -1,10 +1,12 @@
 //! Places in a text, and the step from one to the next.
-ghost use Rattle.std.specs.Prelude.{◌≡◌, true, false, None};
+ghost use Rattle.std.specs.Prelude.{◌≡◌, true, false, None, Ok, [], ◌∷◌, IfOk};
+ghost use Rattle.field_core.specs.Answers.{and_then};
 ghost use Rattle.edge_text.specs.declared.place.Place.TheVariants as at;
 ghost use Rattle.edge_text.specs.Drafts.{edgeless, with_stages, with_spend, counted};
 ghost use Rattle.edge_text.specs.Grammar.{one};
 ghost use Rattle.edge_text.specs.Places.{block, stages, next_block, due, unless_due, spends, spend_or_arrive, further, step, whole};
 ghost use Rattle.edge_text.specs.View.{Gives};
+ghost use Rattle.edge_text.specs.WordReading.{first_step};
 ghost use Rattle.text_lines.specs.Words.{words_of};
 ghost use Rattle.case_model.specs.declared.spend.Spend.TheVariants.{Table};
 ghost use Rattle.edge_text.specs.declared.fault.LineKind.TheVariants.{Unexpected};
@@ -14,7 +16,7 @@ use crate::so_far::SoFar;
 use crate::spend_words::StepWords;
 use crate::{LineKind, TextFault, rules};
 use case_model::{Draft, DraftComponent, DraftStages, Spend, SpendStep};
-use field_core::{List, Number};
+use field_core::{List, NoMemory, Number};
 use fraction::Fraction;
 use std::alloc::Global;
 use text_lines::{Line, Words};
@@ -93,8 +95,8 @@ impl Place {
         match self {
             Place::Edges(_, draft, component) => Ok(draft.finish(component)?),
             Place::Spends(draft, stages) => staged(draft, stages, end),
-            Place::Steps(draft, mut stages, steps) => {
-                stages.spend.push(Spend::Table(steps))?;
+            Place::Steps(draft, stages, steps) => {
+                let stages = with_spend(stages, Spend::Table(steps))?;
                 staged(draft, stages, end)
             }
             _ => Err(TextFault::Line(end, LineKind::Ended)),
@@ -228,6 +230,14 @@ fn stages(
     Ok(Place::Spends(draft, counted(alloc, count)))
 }
 
+/// Returns the stages with what one more hypothesis spends.
+fn with_spend(mut stages: DraftStages, spend: Spend) -> Result<DraftStages, NoMemory>
+    ensures { IfOk result (λ more. more ≡ with_spend stages spend) }
+{
+    stages.spend.push(spend)?;
+    Ok(stages)
+}
+
 /// Returns the draft with its stages, if each hypothesis has its spend.
 fn staged(draft: SoFar, stages: DraftStages, end: usize) -> Result<Draft, TextFault>
     ensures { Gives end (unless_due (due draft stages) (with_stages draft stages)) result }
@@ -239,12 +249,7 @@ fn staged(draft: SoFar, stages: DraftStages, end: usize) -> Result<Draft, TextFa
 }
 
 /// Reads a line at which the spend of the next hypothesis is required, or a p-value that arrived is allowed.
-fn spends(
-    alloc: Global,
-    draft: SoFar,
-    mut stages: DraftStages,
-    line: &Line,
-) -> Result<Place, TextFault>
+fn spends(alloc: Global, draft: SoFar, stages: DraftStages, line: &Line) -> Result<Place, TextFault>
     ensures { Gives line.now.number (spends draft stages line.now.text.now) result }
 {
     let Some(name) = draft.name(stages.spend.len()) else {
@@ -252,16 +257,29 @@ fn spends(
     };
     if let Some(words) = line.behind(b"spend") {
         let shares = rules::shares(alloc, line, words, name)?;
-        stages.spend.push(Spend::Shares(shares))?;
+        let stages = with_spend(stages, Spend::Shares(shares))?;
         return Ok(Place::Spends(draft, stages));
     }
     let Some(words) = line.behind(b"table") else {
         return Err(unexpected(line));
     };
+    let steps = first_steps(alloc, line, words, name)?;
+    Ok(Place::Steps(draft, stages, steps))
+}
+
+/// Returns the first step of a table, alone.
+fn first_steps(
+    alloc: Global,
+    line: &Line,
+    words: Words,
+    name: &[u8],
+) -> Result<List<SpendStep>, TextFault>
+    ensures { Gives line.now.number (and_then (first_step name.now (words_of words.entry)) (λ step. Ok (step ∷ []))) result }
+{
     let step = rules::first_step(alloc, line, words, name)?;
     let mut steps = List::new(alloc);
     steps.push(step)?;
-    Ok(Place::Steps(draft, stages, steps))
+    Ok(steps)
 }
 
 /// Reads a line at which a p-value that arrived is allowed.
@@ -318,12 +336,12 @@ fn further(
 fn behind_table(
     alloc: Global,
     draft: SoFar,
-    mut stages: DraftStages,
+    stages: DraftStages,
     steps: List<SpendStep>,
     line: &Line,
 ) -> Result<Place, TextFault>
     ensures { Gives line.now.number (spends draft (with_spend stages (Table steps)) line.now.text.now) result }
 {
-    stages.spend.push(Spend::Table(steps))?;
+    let stages = with_spend(stages, Spend::Table(steps))?;
     spends(alloc, draft, stages, line)
 }
