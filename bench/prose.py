@@ -8,6 +8,7 @@ definitions. For each part of the repository (a page, a crate) it counts
   words    words that have a plainer one, such as 'want of memory' and 'so many',
   long     sentences of more than 30 words,
   cells    table cells of more than 160 characters,
+  runs     four sentences of nine words or fewer in a row, in one paragraph,
   wide     lines of .rt over 140 bytes, but for string literals and for attributes, which `rt fmt` keeps on one line.
 Prints each part whose count is above its bound in bench/prose.bounds, and ends with status 1 where there is one. With --all it
 prints every count and the places of words; with --write it lowers the bounds to the counts of today, never raises one.
@@ -19,7 +20,7 @@ import sys
 
 TOP = os.path.normpath(os.path.join(os.path.dirname(os.path.abspath(__file__)), ".."))
 BOUNDS = os.path.join(TOP, "bench", "prose.bounds")
-KINDS = ["words", "long", "cells", "wide"]
+KINDS = ["words", "long", "cells", "runs", "wide"]
 WORDS = [
     r"want of memory", r"memory (?:runs|ran) out", r"(?:is|are|was|were|be|been) told", r"tells?", r"behind", r"besides",
     r"so many", r"as many", r"(?:can|can't|cannot|may|might) (?:not )?stand", r"stands? (?:in|on)", r"faults? of (?:a|the) draft",
@@ -71,6 +72,16 @@ def sentences(block):
     return re.split(r"(?<=[.!?])[)*\"']*\s+", plain)
 
 
+def short_runs(block):
+    """Returns how many times four short sentences follow one another in a paragraph."""
+    runs, short = 0, 0
+    for sentence in sentences(block):
+        short = short + 1 if 0 < len(sentence.split()) <= 9 else 0
+        if short == 4:
+            runs, short = runs + 1, 0
+    return runs
+
+
 def wide_lines(text):
     """Returns how many lines are too long, but for string literals and attributes."""
     quoted = r"'(?:[^'\\\n]|\\.)'" + r'|r#".*?"#|"(?:[^"\\]|\\.)*"'
@@ -103,6 +114,7 @@ def counts_of(files, places):
                 counts["words"] += 1
                 places.append((os.path.relpath(path, TOP), found.group(0), plain[max(found.start() - 40, 0) : found.end() + 40]))
             counts["long"] += sum(1 for it in sentences(block) if len(it.split()) > 30)
+            counts["runs"] += short_runs(block)
         counts["cells"] += sum(1 for it in cells if len(it) > 160)
         if path.endswith(".rt"):
             counts["wide"] += wide_lines(text)
