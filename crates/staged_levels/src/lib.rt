@@ -4,7 +4,7 @@
 //! - `Study`: `open` (`study`, `start`, `fault`). `step` (an arrival or a rejection: `study`, `call`, `fault`: each refusal
 //!   exactly with its cause; `refused`: nothing is changed then). `settle` (`study`, `call`, `fault`: it rejects the first
 //!   legal hypothesis until none is legal; after a refusal the rejections before it stay). `settled` (`value`, `sound`,
-//!   `complete`). `weight_limit`. All memory is taken in `open`. `behind`, the rejections after the first of them.
+//!   `complete`) and `weight_limit`. All memory is taken in `open`. `behind` gives the rejections after the first of them.
 //! - `looks` (`looks`, `fault`): a study of a case, settled after each of its arrivals.
 //! - Laws in `src/laws.rt`, over every list of calls: the rejections are a legal order on the values that have arrived, and the
 //!   staged closed test rejects each (`studies_reject_by_the_staged_test`). Once a study is settled they are exactly what it
