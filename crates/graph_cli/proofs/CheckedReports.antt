@@ -24,6 +24,7 @@ use Rattle.graph_cli.specs.Check.{Said, said_of, listed_in, kept_in, answer_to, 
 use Rattle.graph_cli.specs.Commands.{call_of, check_call, check_needs}
 use Rattle.graph_cli.specs.declared.kind.InputKind.TheVariants.{Single}
 use Rattle.graph_cli.specs.Laws.{ReportsEvidence, ChecksAreOfTheClosedTest}
+use Rattle.graph_cli.proofs.CheckedOrders.{checked_order}
 use Rattle.graph_cli.proofs.ClosedReports.{known_arrivals, faultless_content, not_done}
 
 not_no : (s : Status) → s ≡ statuses.No → s ≡ statuses.Done → ⊥
@@ -49,8 +50,10 @@ reported c v bytes printed V single fits says holds e = record {
   says = says;
   holds = holds;
   text_is = e;
+  legal = checked_order c V single (steps_of v) (keeps_of v) (evidence_stored c v fits) (yes_is _ holds);
   rejected = λ j. case_rejected c V single (steps_of v) (keeps_of v) (evidence_stored c v fits) (yes_is _ holds) j;
   all = λ two j. case_decides c V single (steps_of v) (keeps_of v) (evidence_stored c v fits) (yes_is _ holds) (keeps_others c v fits two) j;
+  keeps = λ two. fits.all two;
 }
 
 pub checks_closed_test : ChecksAreOfTheClosedTest

@@ -3,7 +3,9 @@ use Rattle.std.proofs.Common.{◌≡◌, refl, sym, ap, subst, ◌∙◌, ℕ, �
 use Rattle.std.specs.Prelude.{◌↔◌, Option}
 use Rattle.std.proofs.lemmas.Bool.Decides.{nat_tests}
 use Rattle.std.specs.List.{list_any}
-use Rattle.field_core.specs.Sets.{set_of}
+use Rattle.field_core.specs.Sets.{set_of, whole}
+use Rattle.field_core.specs.declared.ratio.Ratio.{Ratio}
+use Rattle.fraction.specs.View.{number_of}
 use Rattle.answers.specs.declared.answer.Answer.{Answer}
 use Rattle.answers.specs.Stages.{IsAnswerOf}
 use Rattle.answers.specs.declared.cause.Cause.{Cause}
@@ -11,9 +13,13 @@ use Rattle.answers.specs.declared.status.Status.{Status}
 use Rattle.answers.specs.declared.status.Status.TheVariants.{Done, Refused}
 use Rattle.case_model.specs.CaseFaults.{case_fault}
 use Rattle.case_model.specs.Draft.{have_known_arrivals}
-use Rattle.case_model.specs.Content.{Content, content_of, IsRejectedIn}
+use Rattle.case_model.specs.Content.{Content, ForSingle, content_of, entangled, IsRejectedIn}
 use Rattle.case_model.specs.declared.draft.Draft.{Draft}
+use Rattle.case_model.specs.LegalOrder.{IsLegalOrder, IsComplete}
+use Rattle.case_model.specs.Sums.{number_at}
 use Rattle.case_model.specs.Validity.{IsValidContent}
+use Rattle.case_model.proofs.SingleInputs.{for_single}
+use Rattle.case_model.proofs.ValidContents.{valid_content}
 use Rattle.edge_text.proofs.Texts.{document_arrivals}
 use Rattle.case_csv.specs.Table.{cells_of}
 use Rattle.case_csv.proofs.NoArrivals.{no_arrivals}
@@ -25,16 +31,16 @@ use Rattle.command_words.specs.Words.{asked_in}
 use Rattle.command_words.proofs.Readings.{stage_decided}
 use Rattle.sequential.specs.declared.decision.StepLine.{StepLine}
 use Rattle.sequential.specs.declared.decision.Decision.{Decision}
-use Rattle.sequential.specs.Decisions.{hypotheses, IsDecision}
+use Rattle.sequential.specs.Decisions.{hypotheses, IsDecision, IsDecisionWith}
 use Rattle.sequential.specs.declared.priority.Priority.{Priority}
-use Rattle.sequential.proofs.DecisionLaws.{decision_decides}
+use Rattle.sequential.proofs.DecisionLaws.{decision_decides, priority_order}
 use Rattle.adjusted_p.specs.declared.adjusted.Adjusted.{Adjusted}
 use Rattle.adjusted_p.specs.AdjustedLists.{AreAdjusted}
 use Rattle.report.specs.TestReport.{is_rejected, test_report}
 use Rattle.graph_cli.specs.Accepted.{grammar}
 use Rattle.graph_cli.specs.Commands.{call_of, case_call, on_case as answers_on_case}
 use Rattle.graph_cli.specs.Test.{test_stage}
-use Rattle.graph_cli.specs.Laws.{ReportsClosedTest, ReportsCase, ReportsAreOfTheClosedTest}
+use Rattle.graph_cli.specs.Laws.{IsLegalOrderIn, IsCompleteIn, DecidesByTheClosedTest, ReportsClosedTest, ReportsCase, ReportsAreOfTheClosedTest}
 use Rattle.graph_cli.specs.Outcome.{AskFor, outcome}
 
 any_listed : (steps : List StepLine) (j : ℕ) → list_any (λ x. x.hypothesis == j) steps ≡ set_of (hypotheses steps) j
@@ -58,21 +64,43 @@ faultless_content d f known = ∣ (record { draft = d; content_is = refl; faultl
 pub not_done : (s : Status) (cause : Cause) → s ≡ Refused cause → s ≡ Done → ⊥
 not_done s cause e f = cc
 
+-- the steps of a decision are a legal order
+legal_order : (c : Content) (priority : Priority) (d : Decision) → IsValidContent c → IsDecision c priority d → IsLegalOrderIn c (hypotheses d.steps)
+legal_order c priority d v h =
+    for_single (λ ps. IsDecisionWith c ps priority d)
+    (λ i. ForSingle i (λ ps. IsLegalOrder (entangled c) (number_at ps) (number_of c.alpha) whole (hypotheses d.steps)))
+    (λ ps D. (priority_order (entangled c) (number_at ps) (number_of c.alpha) priority (hypotheses d.steps) (valid_content c v) D.order).0) c.inputs h
+
+-- after its steps no hypothesis is legal
+complete_order : (c : Content) (priority : Priority) (d : Decision) → IsValidContent c → IsDecision c priority d → IsCompleteIn c (hypotheses d.steps)
+complete_order c priority d v h =
+    for_single (λ ps. IsDecisionWith c ps priority d)
+    (λ i. ForSingle i (λ ps. IsComplete (entangled c) (number_at ps) (number_of c.alpha) whole (hypotheses d.steps)))
+    (λ ps D. (priority_order (entangled c) (number_at ps) (number_of c.alpha) priority (hypotheses d.steps) (valid_content c v) D.order).1) c.inputs h
+
 -- the line `rejected` of a decision on a case names exactly the hypotheses that the closed test rejects
-pub names_rejected : (c : Content) (priority : Priority) (d : Decision) → IsValidContent c → IsDecision c priority d → (j : ℕ)
+names_rejected : (c : Content) (priority : Priority) (d : Decision) → IsValidContent c → IsDecision c priority d → (j : ℕ)
     → (is_rejected d.steps j ≡ true) ↔ IsRejectedIn c j
 names_rejected c priority d v h j =
     let r = decision_decides c priority d v j h in
     (λ (x : is_rejected d.steps j ≡ true). r.0 (sym (named_listed d.steps j) ∙ x), λ x. named_listed d.steps j ∙ r.1 x)
 
+pub by_the_closed_test : (c : Content) (priority : Priority) (d : Decision) → IsValidContent c → IsDecision c priority d
+    → DecidesByTheClosedTest priority c d
+by_the_closed_test c priority d v h = record {
+  decides = h;
+  legal = legal_order c priority d v h;
+  complete = complete_order c priority d v h;
+  named = names_rejected c priority d v h;
+}
+
 reported : (c : Content) (priority : Priority) (d : Decision) (xs : List Adjusted) (printed : List ℕ) → IsValidContent c → IsDecision c priority d
-    → AreAdjusted c xs → printed ≡ test_report c d xs
-    → ReportsClosedTest c printed
+    → AreAdjusted c xs → printed ≡ test_report c d xs → ReportsClosedTest priority c printed
 reported c priority d xs printed v h k e = record {
   decision = d;
   adjusted = xs;
   text_is = e;
-  named = names_rejected c priority d v h;
+  decided = by_the_closed_test c priority d v h;
   values = k;
 }
 
@@ -99,10 +127,10 @@ reports_case Reports words form task case proof a of_case asks (inl h) z =
     }
 
 test_reports : (priority : Priority) (a : Answer) (c : Content) → IsValidContent c → (answers_on_case (Test priority) c).Gives a
-    → ReportsClosedTest c a.text
+    → ReportsClosedTest priority c a.text
 unfolding answers_on_case test_stage
 test_reports priority a c v g = reported c priority g.0 g.2.0 a.text v g.1.1 g.2.1.1 (ap (λ (x : Answer). x.text) g.2.2)
 
 pub reports_closed_test : ReportsAreOfTheClosedTest
 reports_closed_test words form priority case proof a asks h z =
-    reports_case ReportsClosedTest words form (Test priority) case proof a (test_reports priority a) asks h z
+    reports_case (ReportsClosedTest priority) words form (Test priority) case proof a (test_reports priority a) asks h z

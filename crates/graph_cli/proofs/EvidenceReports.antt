@@ -19,6 +19,7 @@ use Rattle.graph_cli.specs.Check.{Said, said_of}
 use Rattle.graph_cli.specs.Commands.{on_case as answers_on_case}
 use Rattle.graph_cli.specs.Evidence.{IsFlowRun, text_said, evidence_stage}
 use Rattle.graph_cli.specs.Laws.{PrintsEvidence, EvidenceIsOfTheClosedTest}
+use Rattle.graph_cli.proofs.CheckedOrders.{checked_order}
 use Rattle.graph_cli.proofs.ClosedReports.{reports_case}
 
 -- there is a decision where there are single p-values
@@ -33,7 +34,9 @@ printed c v decision text V single f holds e = record {
   says = said c v text e V f.fits;
   version = f.version;
   holds = holds;
+  legal = checked_order c V single (steps_of v) (keeps_of v) (evidence_stored c v f.fits) (yes_is _ holds);
   named = λ j. case_decides c V single (steps_of v) (keeps_of v) (evidence_stored c v f.fits) (yes_is _ holds) (keeps_others c v f.fits f.version) j;
+  keeps = f.fits.all f.version;
 }
 
 evidence_prints : (priority : Priority) (a : Answer) (c : Content) → IsValidContent c → (answers_on_case (EvidenceTask priority) c).Gives a

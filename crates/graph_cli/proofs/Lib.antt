@@ -1,6 +1,7 @@
 pub mod AcceptedCases
 pub mod CallAnswers
 pub mod CheckAnswers
+pub mod CheckedOrders
 pub mod CheckedReports
 pub mod ClosedReports
 pub mod EvidenceAnswers

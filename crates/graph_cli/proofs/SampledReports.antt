@@ -22,7 +22,7 @@ use Rattle.sequential.specs.declared.priority.Priority.TheVariants.{First}
 use Rattle.graph_cli.specs.Commands.{call_of}
 use Rattle.graph_cli.specs.Sample.{sample_stage}
 use Rattle.graph_cli.specs.Laws.{SamplesAreOfTheClosedTest}
-use Rattle.graph_cli.proofs.ClosedReports.{faultless_content, names_rejected, not_done}
+use Rattle.graph_cli.proofs.ClosedReports.{faultless_content, by_the_closed_test, not_done}
 
 same_content : (r : Result Content CatalogueFault) (c d : Content) → r ≡ Ok c → r ≡ Ok d → c ≡ d
 same_content r c d e f = cc
@@ -63,6 +63,6 @@ samples_closed_test words size seed case proof a asks (inl h) z =
       record {
         decision = gives.2.0;
         text_is = ap (λ (x : Answer). x.text) gives.2.2;
-        named = names_rejected gives.0 First gives.2.0 (sample_valid size seed gives.0 gives.1) gives.2.1.1;
+        decided = by_the_closed_test gives.0 First gives.2.0 (sample_valid size seed gives.0 gives.1) gives.2.1.1;
       },
     )

@@ -40,6 +40,7 @@ unfolding on_case stages_stage
 stages_reports a c v g = record {
   looks = g.0;
   text_is = ap (λ (x : Answer). x.text) g.2;
+  are_looks = g.1;
   named = λ j. let d = looks_decide c g.0 j v g.1 in let e =
       settled_listed g.0 j in (λ (x : is_settled g.0 j ≡ true). d.0 (sym e ∙ x), λ x. e ∙ d.1 x);
 }

@@ -1,12 +1,15 @@
 -- What the definitions of the outcome promise.
-use Rattle.std.specs.Prelude.{◌≡◌, ◌↔◌, ℕ, true, List, map, Option, Some, None, Ok}
+use Rattle.std.specs.Prelude.{◌≡◌, ◌↔◌, ℕ, true, List, map, length, Option, Some, None, Ok}
+use Rattle.field_core.specs.Sets.{whole}
+use Rattle.fraction.specs.View.{number_of}
 use Rattle.answers.specs.declared.answer.Answer.{Answer}
 use Rattle.answers.specs.declared.status.Status.TheVariants.{Done}
 use Rattle.answers.specs.Stages.{IsAnswerOf}
 use Rattle.case_model.specs.CaseFaults.{case_fault}
-use Rattle.case_model.specs.Content.{Content, content_of, IsRejectedIn}
+use Rattle.case_model.specs.Content.{Content, ForSingle, content_of, entangled, IsRejectedIn}
 use Rattle.case_model.specs.declared.draft.Draft.{Draft}
-use Rattle.case_model.specs.LegalOrder.{IsListed}
+use Rattle.case_model.specs.LegalOrder.{IsListed, IsLegalOrder, IsComplete}
+use Rattle.case_model.specs.Sums.{number_at}
 use Rattle.catalogue.specs.Makings.{sample_case}
 use Rattle.command_words.specs.Asked.{Written, on_case, check, sample}
 use Rattle.command_words.specs.declared.command.CaseTask.TheVariants.{Test, Stages, Evidence as EvidenceTask}
@@ -16,8 +19,10 @@ use Rattle.report.specs.SampleReport.{sample_report}
 use Rattle.report.specs.TestReport.{is_rejected, test_report}
 use Rattle.report.specs.CheckReport.{check_report}
 use Rattle.staged_levels.specs.declared.event.Settled.{Settled}
-use Rattle.staged_levels.specs.Looks.{arrivals_of}
+use Rattle.staged_levels.specs.Looks.{arrivals_of, AreLooks}
 use Rattle.evidence_check.specs.declared.evidence.Evidence.{Evidence}
+use Rattle.evidence_check.specs.Evidence.{others}
+use Rattle.evidence_check.specs.EvidenceParts.{StepParts, KeepParts}
 use Rattle.evidence_check.specs.DocumentStatements.{SaysEvidence}
 use Rattle.evidence_check.specs.EvidenceView.{version_of, steps_of, keeps_of, IsEvidenceFor}
 use Rattle.evidence_check.specs.CaseCheck.{case_check, verdict_of}
@@ -26,6 +31,8 @@ use Rattle.adjusted_p.specs.declared.adjusted.Adjusted.{Adjusted}
 use Rattle.adjusted_p.specs.AdjustedLists.{AreAdjusted}
 use Rattle.sequential.specs.declared.decision.Decision.{Decision}
 use Rattle.sequential.specs.declared.priority.Priority.{Priority}
+use Rattle.sequential.specs.declared.priority.Priority.TheVariants.{First}
+use Rattle.sequential.specs.Decisions.{hypotheses, IsDecision}
 use Rattle.graph_cli.specs.Accepted.{grammar}
 use Rattle.graph_cli.specs.Outcome.{AskFor, outcome}
 
@@ -34,27 +41,44 @@ abbrev pub HasOneAnswer : Type 0
 HasOneAnswer = (words : List (List ℕ)) (case proof : List ℕ) (a b : Answer) → IsAnswerOf (outcome words (Some case) (Some proof)) a
     → IsAnswerOf (outcome words (Some case) (Some proof)) b → a ≡ b
 
--- the text is the report of a decision, with the adjusted values, the least levels at which the closed test rejects the hypotheses. Its line
--- `rejected` names exactly the hypotheses that the closed test rejects
-pub record ReportsClosedTest (c : Content) (text : List ℕ) : Type 0 where
+-- by the p-values of a case, each hypothesis of a list is legal in the set that remains after the earlier ones
+abbrev pub IsLegalOrderIn : Content → List ℕ → Type 0
+IsLegalOrderIn c js = ForSingle c.inputs (λ ps. IsLegalOrder (entangled c) (number_at ps) (number_of c.alpha) whole js)
+
+-- by the p-values of a case, no hypothesis is legal in the set that remains after a list
+abbrev pub IsCompleteIn : Content → List ℕ → Type 0
+IsCompleteIn c js = ForSingle c.inputs (λ ps. IsComplete (entangled c) (number_at ps) (number_of c.alpha) whole js)
+
+-- The decision is that of a priority on a case: its lines have the weights of their hypotheses, and its steps are a legal order, after which no
+-- hypothesis is legal. They are of exactly the hypotheses that the closed test rejects.
+pub record DecidesByTheClosedTest (priority : Priority) (c : Content) (decision : Decision) : Type 0 where
+  pub decides : IsDecision c priority decision
+  pub legal : IsLegalOrderIn c (hypotheses decision.steps)
+  pub complete : IsCompleteIn c (hypotheses decision.steps)
+  pub named : (j : ℕ) → (is_rejected decision.steps j ≡ true) ↔ IsRejectedIn c j
+
+-- the text is the report of the decision of a priority, with the adjusted values, the least levels at which the closed test rejects the hypotheses. Its
+-- line `rejected` names exactly the hypotheses that the closed test rejects
+pub record ReportsClosedTest (priority : Priority) (c : Content) (text : List ℕ) : Type 0 where
   pub decision : Decision
   pub adjusted : List Adjusted
   pub text_is : text ≡ test_report c decision adjusted
-  pub named : (j : ℕ) → (is_rejected decision.steps j ≡ true) ↔ IsRejectedIn c j
+  pub decided : DecidesByTheClosedTest priority c decision
   pub values : AreAdjusted c adjusted
 
--- the text is the report of the case of a sample and of a decision, whose line `rejected` names exactly the hypotheses that the
--- closed test rejects
+-- the text is the report of the case of a sample and of the decision that takes the first legal hypothesis each time, whose line `rejected` names
+-- exactly the hypotheses that the closed test rejects
 pub record ReportsSample (c : Content) (seed : ℕ) (text : List ℕ) : Type 0 where
   pub decision : Decision
   pub text_is : text ≡ sample_report c seed decision
-  pub named : (j : ℕ) → (is_rejected decision.steps j ≡ true) ↔ IsRejectedIn c j
+  pub decided : DecidesByTheClosedTest First c decision
 
 -- the text is the report of the looks at a case, whose line `rejected` names exactly the hypotheses that the staged closed test
 -- rejects on the p-values that arrived
 pub record ReportsStagedTest (c : Content) (text : List ℕ) : Type 0 where
   pub looks : List (List Settled)
   pub text_is : text ≡ stages_report c looks
+  pub are_looks : AreLooks c looks
   pub named : (j : ℕ) → (is_settled looks j ≡ true) ↔ IsStagedRejectedIn c (arrivals_of c.inputs) j
 
 -- the bytes say, in a form, a draft without a fault, and the text reports something of its case
@@ -68,7 +92,7 @@ pub record ReportsCase (Reports : Content → List ℕ → Type 0) (form : Writt
 abbrev pub ReportsAreOfTheClosedTest : Type 0
 ReportsAreOfTheClosedTest = (words : List (List ℕ)) (form : Written) (priority : Priority) (case : List ℕ) (proof : Option (List ℕ)) (a : Answer)
     → AskFor words (on_case form (Test priority)) → IsAnswerOf (outcome words (Some case) proof) a → a.status ≡ Done
-    → ReportsCase ReportsClosedTest form case a.text
+    → ReportsCase (ReportsClosedTest priority) form case a.text
 
 -- what words that ask for `sample` are answered with status 0 reports the closed test on the sampled case
 abbrev pub SamplesAreOfTheClosedTest : Type 0
@@ -82,14 +106,24 @@ ReportsAreOfTheStagedTest = (words : List (List ℕ)) (form : Written) (case : L
     → AskFor words (on_case form Stages) → IsAnswerOf (outcome words (Some case) proof) a → a.status ≡ Done
     → ReportsCase ReportsStagedTest form case a.text
 
--- The text is that of evidence of version 2 for a case, which `check` says yes to; its steps list exactly the hypotheses that the closed test rejects.
+-- the hypotheses of steps and of keeps, in their order
+abbrev pub stepped : List StepParts → List ℕ
+stepped steps = map (λ s. s.hypothesis) steps
+
+abbrev pub retained : List KeepParts → List ℕ
+retained keeps = map (λ x. x.hypothesis) keeps
+
+-- The text is that of evidence of version 2 for a case, which `check` says yes to. Its steps are a legal order of exactly the hypotheses that the
+-- closed test rejects, and it keeps exactly the others.
 pub record PrintsEvidence (c : Content) (text : List ℕ) : Type 0 where
   pub evidence : Evidence
   pub fits : IsEvidenceFor c evidence
   pub says : SaysEvidence c text evidence
   pub version : version_of evidence ≡ 2
   pub holds : verdict_of (case_check c (steps_of evidence) (keeps_of evidence)) ≡ Ok Yes
-  pub named : (j : ℕ) → IsListed (map (λ s. s.hypothesis) (steps_of evidence)) j ↔ IsRejectedIn c j
+  pub legal : IsLegalOrderIn c (stepped (steps_of evidence))
+  pub named : (j : ℕ) → IsListed (stepped (steps_of evidence)) j ↔ IsRejectedIn c j
+  pub keeps : retained (keeps_of evidence) ≡ others (length c.names) (stepped (steps_of evidence))
 
 -- what words that ask for `evidence` are answered with status 0, by any priority, is such evidence of the case
 abbrev pub EvidenceIsOfTheClosedTest : Type 0
@@ -97,16 +131,18 @@ EvidenceIsOfTheClosedTest = (words : List (List ℕ)) (form : Written) (priority
     → AskFor words (on_case form (EvidenceTask priority)) → IsAnswerOf (outcome words (Some case) proof) a → a.status ≡ Done
     → ReportsCase PrintsEvidence form case a.text
 
--- The text is the report of the evidence for a case that a proof denotes, to which the check says yes. Its steps list only hypotheses that the closed
--- test rejects, and in version 2 all of them.
+-- The text is the report of the evidence for a case that a proof denotes, to which the check says yes. Its steps are a legal order of hypotheses that
+-- the closed test rejects. In version 2 they are all that it rejects, and the evidence keeps exactly the others.
 pub record ReportsEvidence (c : Content) (proof text : List ℕ) : Type 0 where
   pub evidence : Evidence
   pub fits : IsEvidenceFor c evidence
   pub says : SaysEvidence c proof evidence
   pub holds : verdict_of (case_check c (steps_of evidence) (keeps_of evidence)) ≡ Ok Yes
-  pub text_is : text ≡ check_report c (version_of evidence) (map (λ s. s.hypothesis) (steps_of evidence)) (map (λ x. x.hypothesis) (keeps_of evidence))
-  pub rejected : (j : ℕ) → IsListed (map (λ s. s.hypothesis) (steps_of evidence)) j → IsRejectedIn c j
-  pub all : version_of evidence ≡ 2 → (j : ℕ) → IsListed (map (λ s. s.hypothesis) (steps_of evidence)) j ↔ IsRejectedIn c j
+  pub text_is : text ≡ check_report c (version_of evidence) (stepped (steps_of evidence)) (retained (keeps_of evidence))
+  pub legal : IsLegalOrderIn c (stepped (steps_of evidence))
+  pub rejected : (j : ℕ) → IsListed (stepped (steps_of evidence)) j → IsRejectedIn c j
+  pub all : version_of evidence ≡ 2 → (j : ℕ) → IsListed (stepped (steps_of evidence)) j ↔ IsRejectedIn c j
+  pub keeps : version_of evidence ≡ 2 → retained (keeps_of evidence) ≡ others (length c.names) (stepped (steps_of evidence))
 
 -- what words that ask for `check` are answered with status 0 lists only hypotheses that the closed test rejects, and in version 2 all of them
 abbrev pub ChecksAreOfTheClosedTest : Type 0

@@ -5,9 +5,11 @@ pub mod FilledCases
 pub mod NamedGraphs
 pub mod RuleTests
 pub mod RulesDecide
+pub mod RulesOfCases
 pub mod SetNumbers
 pub mod SetsOnce
 pub mod SimesPrinted
+pub mod StagesAgree
 pub mod StudyPrinted
 pub mod WeightsPrinted
 pub mod WholeDrafts

@@ -1,10 +1,9 @@
 -- What `catalogue` prints is read as the case of the named graph, on which the closed test decides as the rule of the textbooks.
-use Rattle.std.specs.Prelude.{◌≡◌, ◌↔◌, ◌≤◌, ◌+◌, ℕ, true, List, Option, Some, Ok, length}
+use Rattle.std.specs.Prelude.{◌≡◌, ◌↔◌, ◌≤◌, ◌+◌, ℕ, List, Option, Some, Ok, length}
 use Rattle.field_core.specs.Fractions.{one_over}
 use Rattle.field_core.specs.Number.{Number}
 use Rattle.field_core.specs.declared.ratio.Ratio.{Ratio}
 use Rattle.fraction.specs.View.{number_of}
-use Rattle.adjusted_p.specs.declared.adjusted.Adjusted.{Adjusted}
 use Rattle.answers.specs.declared.answer.Answer.{Answer}
 use Rattle.answers.specs.declared.status.Status.TheVariants.{Done}
 use Rattle.answers.specs.Stages.{IsAnswerOf, most_bytes}
@@ -21,14 +20,13 @@ use Rattle.command_words.specs.declared.command.CaseTask.TheVariants.{Test}
 use Rattle.command_words.specs.declared.form.Form.TheVariants.{Text}
 use Rattle.command_words.specs.declared.graph_name.SizedGraph.{SizedGraph}
 use Rattle.command_words.specs.declared.graph_name.SizedGraph.TheVariants.{Holm, FixedSequence, Fallback, Parallel, ImprovedParallel}
-use Rattle.report.specs.TestReport.{is_rejected, test_report}
-use Rattle.sequential.specs.declared.decision.Decision.{Decision}
 use Rattle.sequential.specs.declared.priority.Priority.{Priority}
 use Rattle.textbook.specs.DefinedDecisions.{IsNeverWide}
 use Rattle.graph_cli.specs.Accepted.{case_in}
 use Rattle.graph_cli.specs.Graphs.{named_case}
 use Rattle.graph_cli.specs.Outcome.{AskFor, outcome}
 use Rattle.printed.specs.Canon.{IsReadAs}
+use Rattle.printed.specs.Rules.{ReportsRule}
 
 -- how many hypotheses a named graph has
 abbrev pub graph_size : SizedGraph → ℕ
@@ -46,20 +44,13 @@ twentieth = one_over 20
 abbrev pub with_p_values : List Ratio → Content → Content
 with_p_values ps c = record { names = c.names; alpha = c.alpha; components = c.components; inputs = Single ps }
 
--- The text is the report of a decision on a case, whose line `rejected` names exactly the hypotheses that a rule rejects.
-pub record ReportsRule (Rejects : ℕ → Type 0) (c : Content) (text : List ℕ) : Type 0 where
-  pub decision : Decision
-  pub adjusted : List Adjusted
-  pub text_is : text ≡ test_report c decision adjusted
-  pub named : (j : ℕ) → (is_rejected decision.steps j ≡ true) ↔ Rejects j
-
 -- Bytes say the case with p-values, in whatever form, and aren't more than an input may have. Then what words that ask for `test` are answered has
 -- the status 0, by any priority, and reports the rule.
 abbrev pub IsTestedBy : ((ℕ → Number) → ℕ → Type 0) → Content → Type 0
 IsTestedBy Rejects c = (words : List (List ℕ)) (form : Written) (priority : Priority) (bytes : List ℕ) (proof : Option (List ℕ)) (ps : List Ratio)
     (a : Answer) → ArePValues (length c.names) ps → (case_in form bytes).Gives (with_p_values ps c) → length bytes ≤ most_bytes
     → AskFor words (on_case form (Test priority)) → IsAnswerOf (outcome words (Some bytes) proof) a
-    → (a.status ≡ Done) × ReportsRule (Rejects (number_at ps)) (with_p_values ps c) a.text
+    → (a.status ≡ Done) × ReportsRule (Rejects (number_at ps)) priority (with_p_values ps c) a.text
 
 -- By whatever p-values, one for each hypothesis, the closed test rejects exactly what a rule rejects, nothing is too wide, and `test` reports the rule.
 pub record DecidesBy (Rejects : (ℕ → Number) → ℕ → Type 0) (c : Content) : Type 0 where

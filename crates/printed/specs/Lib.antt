@@ -1,7 +1,9 @@
 pub mod Bounds
 pub mod Canon
 pub mod Catalogue
+pub mod Rules
 pub mod Sets
 pub mod Simes
+pub mod Stages
 pub mod Study
 pub mod Weights

@@ -2,7 +2,9 @@
 ghost use Rattle.printed.specs.Bounds.{BoundsAreOfTheClosedTest};
 ghost use Rattle.printed.specs.Canon.{CanonIsReadAsTheCase, CanonTellsCasesApart};
 ghost use Rattle.printed.specs.Catalogue.{CatalogueIsOfTheNamedGraphs};
+ghost use Rattle.printed.specs.Rules.{HolmGraphsAreTestedByHolm, SequencesAreTestedInOrder, FallbacksAreTestedByFallback};
 ghost use Rattle.printed.specs.Simes.{SimesReportsAreOfTheSimesTest};
+ghost use Rattle.printed.specs.Stages.{StagesAgreeInEveryOrder};
 ghost use Rattle.printed.specs.Study.{StudiesAreOfTheStagedTest};
 ghost use Rattle.printed.specs.Weights.{WeightsAreOfTheIntersections};
 
@@ -34,6 +36,20 @@ pub fn bounds_are_of_the_closed_test()
 /// on the case with p-values ends with status 0, and names exactly what the rule rejects.
 pub fn catalogue_is_of_the_named_graphs()
     ensures { CatalogueIsOfTheNamedGraphs }
+{}
+
+/// `test` on a case with fractions alone, in whatever form and at its own level, on Holm's graph, on that of a fixed sequence, or on
+/// a fallback graph whose weights have a common denominator of at most 100,000,000, ends with status 0. It names exactly what
+/// the textbook rule rejects.
+pub fn textbook_graphs_are_tested_by_their_rules()
+    ensures holm { HolmGraphsAreTestedByHolm }
+    ensures sequence { SequencesAreTestedInOrder }
+    ensures fallback { FallbacksAreTestedByFallback }
+{}
+
+/// What `stages` prints with status 0 of two cases that differ at most in the order of their arrivals has one line `rejected`.
+pub fn stages_agree_in_every_order()
+    ensures { StagesAgreeInEveryOrder }
 {}
 
 /// What `study` prints with status 0 is the report of the replies to its commands. Each line `show` names exactly what the
