@@ -49,8 +49,8 @@ IsLegalOrderIn c js = ForSingle c.inputs (λ ps. IsLegalOrder (entangled c) (num
 abbrev pub IsCompleteIn : Content → List ℕ → Type 0
 IsCompleteIn c js = ForSingle c.inputs (λ ps. IsComplete (entangled c) (number_at ps) (number_of c.alpha) whole js)
 
--- The decision is that of a priority on a case: its lines have the weights of their hypotheses, and its steps are a legal order, after which no
--- hypothesis is legal. They are of exactly the hypotheses that the closed test rejects.
+-- The decision is that of a priority on a case, with the weights of its hypotheses. Its steps are a legal order, after which no hypothesis is legal.
+-- They are of exactly the hypotheses that the closed test rejects.
 pub record DecidesByTheClosedTest (priority : Priority) (c : Content) (decision : Decision) : Type 0 where
   pub decides : IsDecision c priority decision
   pub legal : IsLegalOrderIn c (hypotheses decision.steps)
@@ -66,8 +66,8 @@ pub record ReportsClosedTest (priority : Priority) (c : Content) (text : List �
   pub decided : DecidesByTheClosedTest priority c decision
   pub values : AreAdjusted c adjusted
 
--- the text is the report of the case of a sample and of the decision that takes the first legal hypothesis each time, whose line `rejected` names
--- exactly the hypotheses that the closed test rejects
+-- The text is the report of the case of a sample and of the decision that takes the first legal hypothesis each time. Its line `rejected` names exactly
+-- the hypotheses that the closed test rejects.
 pub record ReportsSample (c : Content) (seed : ℕ) (text : List ℕ) : Type 0 where
   pub decision : Decision
   pub text_is : text ≡ sample_report c seed decision

@@ -38,9 +38,9 @@ pub fn catalogue_is_of_the_named_graphs()
     ensures { CatalogueIsOfTheNamedGraphs }
 {}
 
-/// `test` on a case with fractions alone, in whatever form and at its own level, on Holm's graph, on that of a fixed sequence, or on
-/// a fallback graph whose weights have a common denominator of at most 100,000,000, ends with status 0. It names exactly what
-/// the textbook rule rejects.
+/// On the graph of a textbook rule, `test` ends with status 0 and names exactly what the rule rejects at the level of the case.
+/// The case is any one with p-values and with fractions alone, on Holm's graph, a fixed sequence, or a fallback graph whose
+/// weights have a common denominator of at most 100,000,000.
 pub fn textbook_graphs_are_tested_by_their_rules()
     ensures holm { HolmGraphsAreTestedByHolm }
     ensures sequence { SequencesAreTestedInOrder }
