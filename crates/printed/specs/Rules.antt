@@ -61,4 +61,4 @@ abbrev pub FallbacksAreTestedByFallback : Type 0
 FallbacksAreTestedByFallback =
     (a : ℕ → ℕ) (d : ℕ) → d < 100000000
     → AreTestedBy (λ c. IsFallbackGraph (over a d) (entangled c))
-      (λ c ps. IsFallbackRejected (number_at ps) (number_of c.alpha) (length c.names) (over a d))
+    (λ c ps. IsFallbackRejected (number_at ps) (number_of c.alpha) (length c.names) (over a d))

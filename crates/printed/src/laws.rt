@@ -39,7 +39,7 @@ pub fn catalogue_is_of_the_named_graphs()
 {}
 
 /// On the graph of a textbook rule, `test` ends with status 0 and names exactly what the rule rejects at the level of the case.
-/// The case is any one with p-values and with fractions alone, on Holm's graph, a fixed sequence, or a fallback graph whose
+/// The case is any one with p-values and with fractions alone. The graph is Holm's, a fixed sequence, or a fallback graph whose
 /// weights have a common denominator of at most 100,000,000.
 pub fn textbook_graphs_are_tested_by_their_rules()
     ensures holm { HolmGraphsAreTestedByHolm }

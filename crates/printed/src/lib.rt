@@ -1,5 +1,6 @@
-//! What the program prints, by laws over words and bytes: of `canon`, `simes`, `weights`, `bounds`, `catalogue` and `study`.
-//! The laws of `test`, `sample`, `stages`, `check` and `evidence` are in `graph_cli`.
+//! What the program prints, by laws over words and bytes: of `canon`, `simes`, `weights`, `bounds`, `catalogue` and `study`,
+//! of `test` on the graphs of textbook rules, and of `stages` in each order. The other laws of `test` and `stages`, and those of
+//! `sample`, `check` and `evidence`, are in `graph_cli`.
 //!
 //! Proved, for each answer with status 0:
 //! - `canon_is_read_as_the_case`: what `canon` prints in a form is read in that form as the case that was read, and as no
@@ -14,6 +15,10 @@
 //! - `catalogue_is_of_the_named_graphs`: what `catalogue` prints is read as the case of the named graph. On Holm's graph, on
 //!   fixed sequences and on fallback with equal weights, by whatever p-values, the closed test rejects exactly what the
 //!   textbook rule rejects. `test` on the case with these p-values ends with status 0 and names exactly these hypotheses.
+//! - `textbook_graphs_are_tested_by_their_rules`: on a case with p-values and with fractions alone, whose graph is Holm's, a
+//!   fixed sequence or a fallback graph, `test` ends with status 0. It names exactly what the textbook rule rejects at the level
+//!   of the case.
+//! - `stages_agree_in_every_order`: two cases that differ at most in the order of their arrivals have one line `rejected`.
 //! - `studies_are_of_the_staged_test`: what `study` prints is the report of the replies to its commands. Each line `show`
 //!   names exactly what the staged closed test rejects on the looks that are kept by then. The lines `reject` after a look
 //!   name what the test rejects with it, beyond what it rejected before.
