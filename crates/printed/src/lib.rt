@@ -1,6 +1,6 @@
-//! What the program prints, by laws over words and bytes: of `canon`, `simes`, `weights`, `bounds`, `catalogue` and `study`,
-//! of `test` on the graphs of textbook rules, and of `stages` in each order. The other laws of `test` and `stages`, and those of
-//! `sample`, `check` and `evidence`, are in `graph_cli`.
+//! What the program prints, by laws over words and bytes: of `canon`, `simes`, `weights`, `bounds`, `catalogue` and `study`.
+//! There are also laws of `test` on the graphs of textbook rules, and of `stages` in each order; the others of `test` and `stages`,
+//! and those of `sample`, `check` and `evidence`, are in `graph_cli`.
 //!
 //! Proved, for each answer with status 0:
 //! - `canon_is_read_as_the_case`: what `canon` prints in a form is read in that form as the case that was read, and as no
