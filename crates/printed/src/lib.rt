@@ -1,5 +1,5 @@
 //! What the program prints, by laws over words and bytes: of `canon`, `simes`, `weights`, `bounds`, `catalogue` and `study`.
-//! There are also laws of `test` on the graphs of textbook rules, and of `stages` in each order; the others of `test` and `stages`,
+//! There are also laws of `test` on the graphs of textbook rules, and of `stages` in each order. The others of `test` and `stages`,
 //! and those of `sample`, `check` and `evidence`, are in `graph_cli`.
 //!
 //! Proved, for each answer with status 0:
