@@ -1,0 +1,96 @@
+#!/usr/bin/env python3
+"""Checks the planted bugs: the edits crates/CRATE/must-fail/NAME.edit, each of which the prover has to refuse.
+
+    bench/planted.py
+
+docs/TESTING.md has a table whose heading is `| Wrong body | Crate | Refused by |`: wrong bodies that are always planted, each with
+its crate and the clause that refuses it. The check fails if
+
+- one of them has no edit of its name in its crate, or names no clause;
+- there are more than 150 planted bugs in all;
+- the `old:` text of an edit does not stand exactly once in its file, after the edit's earlier pairs.
+
+`rt ci` tries the edits themselves, and passes over one that cannot be applied. Prints how many there are, and a line for each
+failure. Ends with status 1 if there is one.
+"""
+import pathlib
+import sys
+
+TOP = pathlib.Path(__file__).resolve().parent.parent
+PAGE = TOP / "docs" / "TESTING.md"
+HEADING = "| Wrong body | Crate | Refused by |"
+MOST = 150
+
+
+def named_bugs(page):
+    """Returns the rows of the table of wrong bodies: name, crate and clause."""
+    lines = page.split("\n")
+    if HEADING not in lines:
+        return []
+    rows = []
+    for line in lines[lines.index(HEADING) + 2 :]:
+        if not line.startswith("|"):
+            break
+        name, crate, clause = (cell.strip() for cell in line.strip("|").split("|", 2))
+        rows.append((name.strip("`"), crate, clause))
+    return rows
+
+
+def missing_bugs(rows, edits):
+    """Yields a line for each wrong body of the table that has no edit or no clause."""
+    if not rows:
+        yield f"{PAGE.relative_to(TOP)}: no table with the heading {HEADING}"
+    for name, crate, clause in rows:
+        if (crate, name) not in edits:
+            yield f"crates/{crate}/must-fail/{name}.edit: missing"
+        if not clause:
+            yield f"{PAGE.relative_to(TOP)}: {name}: no clause"
+
+
+def edit_pairs(edit):
+    """Returns the file that an edit changes, and its pairs of an old and a new text."""
+    file, old, pairs = None, None, []
+    for line in edit.read_text(encoding="utf-8").split("\n"):
+        if line.startswith("file: "):
+            file = line.removeprefix("file: ").strip()
+        elif line.startswith("old: "):
+            old = line.removeprefix("old: ")
+        elif line.startswith("new:") and old is not None:
+            pairs.append((file, old, line.removeprefix("new:").removeprefix(" ")))
+    return pairs
+
+
+def unapplied_texts(edit):
+    """Yields a line for each old text of an edit that does not stand exactly once in its file."""
+    place, changed = edit.relative_to(TOP), {}
+    pairs = edit_pairs(edit)
+    if not pairs:
+        yield f"{place}: no pair of texts"
+    for file, old, new in pairs:
+        source = edit.parent.parent / (file or "")
+        if source not in changed:
+            if not source.is_file():
+                yield f"{place}: no file {file}"
+                return
+            changed[source] = source.read_text(encoding="utf-8")
+        count = changed[source].count(old)
+        if count != 1:
+            yield f"{place}: its old text stands {count} times in {file}: {old.strip()}"
+        changed[source] = changed[source].replace(old, new, 1)
+
+
+def main():
+    edits = {(edit.parent.parent.name, edit.stem): edit for edit in sorted(TOP.glob("crates/*/must-fail/*.edit"))}
+    rows = named_bugs(PAGE.read_text(encoding="utf-8"))
+    failures = list(missing_bugs(rows, edits))
+    if len(edits) > MOST:
+        failures.append(f"{len(edits)} planted bugs, more than {MOST}")
+    for edit in edits.values():
+        failures.extend(unapplied_texts(edit))
+    for failure in failures:
+        print("planted bugs:", failure)
+    print(f"{len(edits)} planted bugs, {len(rows)} wrong bodies of the table, {len(failures)} failures")
+    sys.exit(1 if failures else 0)
+
+
+main()
