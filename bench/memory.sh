@@ -5,7 +5,7 @@
 #
 #     bench/memory.sh [PROGRAM]
 set -eu
-here=$(cd "$(dirname "$0")" && pwd)
+here=$(dirname -- "$(readlink -f -- "$0")")
 program=${1:-$here/../crates/welungad/out/welungad}
 out=$here/out
 mkdir -p "$out"
