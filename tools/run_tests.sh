@@ -17,5 +17,6 @@ for name in git man cc objcopy pkg-config valgrind; do
     command -v "$name" >/dev/null || missing="${missing:+$missing, }$name"
 done
 [ -x ../crates/welungad/out/welungad ] || missing="${missing:+$missing, }the built program"
+[ -f ../c/out/stamp ] || missing="${missing:+$missing, }the built C library"
 PYTHONDONTWRITEBYTECODE=1 python3 -m unittest test_tools test_install
 [ -z "$missing" ] || skip "$missing" " in part"

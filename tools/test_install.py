@@ -170,6 +170,9 @@ class Room(unittest.TestCase):
         """Writes a library of a few bytes with its stamp, as c/build.sh does."""
         for name in ("libwelungad.a", "libwelungad.so"):
             self.write(f"c/out/{name}", f"{name}\n")
+        self.make_stamp()
+
+    def make_stamp(self):
         made = 'cd "$top" && . tools/stamps.sh && now=$(sources $library_sources) && stamp_of "$now" "$now" c/out/libwelungad.so c/out/libwelungad.a'
         status, stamp, errors = self.call(["sh", "-c", made], top=self.top, script="test")
         self.assertEqual((status, errors), (0, ""))
@@ -648,6 +651,40 @@ class Library(Room):
         self.assertEqual(self.call(["pkg-config", "--modversion", "welungad"], **more)[1], content("VERSION"))
 
 
+def finding():
+    """Returns why c/out of this checkout hasn't the library that was proved, or nothing."""
+    script = 'top=$1 script=test && . "$top/tools/stamps.sh" && finding c/out/stamp "$(trees $library_sources)" c/out/libwelungad.so c/out/libwelungad.a'
+    return subprocess.run(["sh", "-c", script, "sh", TOP], capture_output=True, text=True, cwd=TOP).stdout
+
+
+@HAS_GIT
+@HAS_CC
+@unittest.skipUnless(os.path.exists(os.path.join(TOP, "c", "out", "stamp")) and not finding(), "the C library isn't built")
+@unittest.skipUnless(shutil.which("pkg-config") and shutil.which("valgrind"), "pkg-config or valgrind is missing")
+class Example(Room):
+    def test_example(self):
+        """Whether the installed example, compiled outside the checkout by the words of pkg-config, decides a case, and valgrind finds nothing."""
+        self.build()
+        self.make_library()
+        for name in ("libwelungad.a", "libwelungad.so"):
+            shutil.copy(os.path.join(TOP, "c", "out", name), os.path.join(self.top, "c", "out", name))
+        self.make_stamp()
+        prefix = self.path("prefix")
+        self.assertEqual(self.run_script("install", prefix)[0], 0)
+        here = self.path("elsewhere")
+        os.makedirs(here)
+        shutil.copy(os.path.join(prefix, "share", "welungad", "c", "examples", "decide.c"), here)
+        more = {"PKG_CONFIG_PATH": f"{prefix}/lib/pkgconfig", "LD_LIBRARY_PATH": f"{prefix}/lib"}
+        compiled = 'eval "cc -Wall -Wextra -Werror -o decide decide.c $(pkg-config --cflags --libs welungad)"'
+        self.assertEqual(self.call(["sh", "-c", compiled], where=here, **more), (0, "", ""))
+        watched = "valgrind -q --error-exitcode=99 --leak-check=full --show-leak-kinds=all --errors-for-leak-kinds=all ./decide".split()
+        status, printed, errors = self.call([*watched, os.path.join(TOP, "examples", "holm.txt")], where=here, **more)
+        self.assertEqual((status, errors), (0, ""))
+        self.assertTrue(printed.startswith("alpha 1/40\nstep 1 H2 p 1/200 weight 1/3\n"))
+        self.assertIn("\nrejected H1 H2 H3\n", printed)
+        self.assertEqual(self.call([*watched, "/dev/null"], where=here, **more), (3, "malformed: line 1: ended\n", ""))
+
+
 @HAS_GIT
 class Configure(Room):
     """r/configure, in the folder that R starts it in."""
@@ -663,8 +700,6 @@ class Configure(Room):
         if os.path.exists(makevars):
             os.remove(makevars)
         done = self.call(["sh", "-c", "./configure; exit $?"], where=os.path.join(self.top, "r"), PWD=stood, **more)
-        if not os.path.exists(makevars):
-            return done, None
         with open(makevars, encoding="utf-8") as file:
             return done, file.read()
 
@@ -699,7 +734,7 @@ class Configure(Room):
         ):
             done, written = self.configure(**places)
             self.is_refused(done, words)
-            self.assertIsNone(written)
+            self.assertEqual(written, "")
         self.write("../a prefix/lib/libwelungad.a", "garbage")
         self.is_refused(self.configure(WELUNGAD_PREFIX=prefix)[0], "not the library that was proved")
         os.remove(os.path.join(prefix, "share", "welungad", "identity"))
@@ -708,6 +743,8 @@ class Configure(Room):
         self.make_library()
         places = {"WELUNGAD_INCLUDE": f"{self.top}/c", "WELUNGAD_LIB": f"{self.top}/c/out"}
         self.is_refused(self.configure(**places)[0], "edited and not committed")
+        if IS_ROOT:
+            self.is_refused(self.call(["./configure"], where=os.path.join(self.top, "r"), user=NOBODY), "can't be written")
 
 
 # A stand-in for rt with its words for a library: `low`, and `high` above it. `rt ci` builds both.
