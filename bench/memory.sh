@@ -60,7 +60,7 @@ for file in "$out"/wide-*; do
     case $file in
     *.csv) words='test --form csv --alpha 0.05' ;;
     *.json) words='test --form json' ;;
-    *) words=test ;;
+    *) words='test' ;;
     esac
     # shellcheck disable=SC2086
     status=0

@@ -3,6 +3,7 @@
 `tools/run_tests.sh` runs them. Nothing is proved: each test has a small checkout of its own, in a folder with blanks in its name,
 with the scripts of this one and a stand-in for rt.
 """
+import glob
 import os
 import re
 import shutil
@@ -81,7 +82,7 @@ LEFT_OUT = (
     "tools/test_tools.py tools/run_tests.sh c/test.sh c/test_calls.c python/tests/test_a.py python/test_a.py python/run_tests.sh "
     "python/acceptance_rows.py r/tests/testthat.R r/tests/testthat/test-a.R r/run_tests.sh r/.gitignore bench/README.md"
 ).split()
-BUILT = "r/src/a.o r/src/a.so r/src/Makevars python/welungad/__pycache__/a.pyc python/welungad.egg-info/PKG-INFO".split()
+BUILT = "python/.mypy_cache/a r/src/a.o r/src/a.so r/src/Makevars python/welungad/__pycache__/a.pyc python/welungad.egg-info/PKG-INFO".split()
 
 
 def content(*path):
@@ -127,7 +128,7 @@ class Room(unittest.TestCase):
             self.write(name, content(name))
         for name in ("crates/welungad/src/main.rt", "crates/welungad_c/src/lib.rt", "crates.txt", "HANDLES"):
             self.write(name, f"{name}\n")
-        self.write(".gitignore", "out/\n__pycache__/\n*.egg-info/\nr/src/Makevars\nr/src/*.o\nr/src/*.so\n")
+        self.write(".gitignore", "out/\n__pycache__/\n.mypy_cache\n*.egg-info/\nr/src/Makevars\nr/src/*.o\nr/src/*.so\n")
         self.write("../kit/bin/rt", RT, 0o755)
         self.write("../kit/bin/stub.c", STUB)
         self.write("../kit/c/liblibc_c.a", "!<arch>\n")
@@ -283,8 +284,7 @@ class Program(Room):
         """Whether the repository that a hook names is not taken for that of the checkout."""
         self.build()
         other = self.path("other")
-        os.makedirs(os.path.join(other, "crates"))
-        self.commit(other) if os.listdir(os.path.join(other, "crates")) else subprocess.run(["git", "init", "-q", other], check=True)
+        subprocess.run(["git", "init", "-q", other], check=True)
         self.assertEqual(self.run_script("welungad", GIT_DIR=os.path.join(other, ".git"), GIT_WORK_TREE=other), (0, "1 0\n", ""))
 
     def test_reading_alone(self):
@@ -465,16 +465,18 @@ class Install(Room):
 
     def test_destdir(self):
         """Whether DESTDIR is put before the prefix in all places but those that are used later."""
-        staged = self.path("stage")
+        staged, final = self.path("stage"), self.path("final")
         os.makedirs(staged)
         before = snapshot(staged)
-        self.install("/opt/w", DESTDIR=staged)
-        self.assertEqual(self.found(os.path.join(staged, "opt", "w")), self.wanted())
-        with open(os.path.join(staged, "opt", "w", "lib", "pkgconfig", "welungad.pc"), encoding="utf-8") as file:
-            self.assertEqual(file.readline(), "prefix=/opt/w\n")
-        self.is_refused(self.run_script("install", "opt/w", DESTDIR=staged), "has to begin with /")
-        self.uninstall("/opt/w", DESTDIR=staged)
-        os.rmdir(os.path.join(staged, "opt"))
+        self.install(final, DESTDIR=staged)
+        self.assertEqual(self.found(staged + final), self.wanted())
+        self.assertFalse(os.path.exists(final))
+        with open(f"{staged}{final}/lib/pkgconfig/welungad.pc", encoding="utf-8") as file:
+            self.assertNotIn("stage", file.read())
+        self.is_refused(self.run_script("install", "final", DESTDIR=staged), "has to begin with /")
+        self.uninstall(final, DESTDIR=staged)
+        os.removedirs(staged + self.room)
+        os.makedirs(staged, exist_ok=True)
         self.assertEqual(snapshot(staged), before)
 
     def test_places(self):
@@ -517,7 +519,7 @@ class Install(Room):
         before = snapshot(self.prefix)
         for again in (False, True):
             self.install()
-            for name in (*BUILT, "tools/__pycache__/draw.pyc", "python/build/lib/a.py"):
+            for name in (*BUILT[1:], "tools/__pycache__/draw.pyc", "python/build/lib/a.py"):
                 self.write(f"../a prefix/share/welungad/{name}", "")
             if again:
                 for name in ("tools/draw.py", "python/welungad/__init__.py", "python/welungad/py.typed"):
@@ -552,7 +554,7 @@ class Install(Room):
                 self.write("docs/FORMATS.md", "newer\n")
             before = snapshot(self.room)
             for number, name, status in ((1, "INT", 130), (9, "TERM", 143), (25, "HUP", 129)):
-                self.assertEqual(self.interrupted("install", number, name), status)
+                self.assertEqual(self.interrupted("cp", number, name), status)
                 os.remove(self.path("count"))
                 self.assertEqual(snapshot(self.room), before)
 
@@ -853,6 +855,17 @@ if [ "$1" = canon ]; then echo "$kase"; else echo "study $*"; : >looks.db; fi
 """
 
 
+class Scripts(unittest.TestCase):
+    @unittest.skipUnless(shutil.which("shellcheck"), "shellcheck is missing")
+    def test_shellcheck(self):
+        """Whether shellcheck finds nothing in any script of this checkout."""
+        names = [name for name in SCRIPTS if not name.endswith(".py")]
+        for folder in ("bench", "c", "python", "r", "tools"):
+            names += [os.path.relpath(path, TOP) for path in glob.glob(os.path.join(TOP, folder, "*.sh"))]
+        done = subprocess.run(["shellcheck", "-x", "-S", "warning", *sorted(set(names))], capture_output=True, text=True, cwd=TOP)
+        self.assertEqual((done.returncode, done.stdout), (0, ""), done.stderr)
+
+
 class Release(unittest.TestCase):
     def test_one_release(self):
         """Whether the release that VERSION states is named in each file that names one."""
@@ -862,8 +875,9 @@ class Release(unittest.TestCase):
         self.assertIn(f"\nVersion: {release}\n", content("r", "DESCRIPTION"))
         self.assertIn(f'"welungad {release}"', content("docs", "welungad.1").splitlines()[0])
         self.assertRegex(content("CHANGES.md"), rf"(?m)^.*release.*\b{re.escape(release)}\b")
-        if os.path.exists(os.path.join(TOP, "python", "pyproject.toml")):
-            self.assertIn(f'\nversion = "{release}"\n', content("python", "pyproject.toml"))
+        for name in glob.glob(os.path.join(TOP, "python", "**", "*.py"), recursive=True):
+            for found in re.findall(r'(?m)^__version__ = "(.*)"$', content(name)):
+                self.assertEqual(found, release)
 
     def test_licence(self):
         """Whether both licences are there, and R's file has the two lines that R asks for."""
