@@ -11,7 +11,7 @@
 #
 # (`rt try --fail-alloc N -- test` does one such run with every access checked, but builds the program anew for each N.)
 set -eu
-here=$(cd "$(dirname "$0")" && pwd)
+here=$(dirname -- "$(readlink -f -- "$0")")
 program=${1:-$here/../crates/welungad/out/welungad}
 examples=$here/../examples
 out=$here/out

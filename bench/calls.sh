@@ -3,7 +3,7 @@
 # microseconds, the least of five rounds: the processor time of a call in process, and the elapsed time of a started program. R's
 # table follows (calls.R), if Rscript and the package of r/ are there. The gate requires none of these figures.
 set -eu
-here=$(cd "$(dirname "$0")" && pwd)
+here=$(dirname -- "$(readlink -f -- "$0")")
 out=$here/out
 mkdir -p "$out"
 python3 "$here/cases.py" "$out"

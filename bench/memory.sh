@@ -5,7 +5,7 @@
 #
 #     bench/memory.sh [PROGRAM]
 set -eu
-here=$(cd "$(dirname "$0")" && pwd)
+here=$(dirname -- "$(readlink -f -- "$0")")
 program=${1:-$here/../crates/welungad/out/welungad}
 out=$here/out
 mkdir -p "$out"
@@ -60,7 +60,7 @@ for file in "$out"/wide-*; do
     case $file in
     *.csv) words='test --form csv --alpha 0.05' ;;
     *.json) words='test --form json' ;;
-    *) words=test ;;
+    *) words='test' ;;
     esac
     # shellcheck disable=SC2086
     status=0

@@ -6,7 +6,7 @@
 # - the time of reading 4 MiB of one kind of line, compared with 4 MiB of edges, and of reading sheets of 4 MiB.
 # The gate requires none of these figures. Needs g++, /usr/bin/time and, for the instructions, valgrind.
 set -eu
-here=$(cd "$(dirname "$0")" && pwd)
+here=$(dirname -- "$(readlink -f -- "$0")")
 out=$here/out
 mkdir -p "$out"
 python3 "$here/cases.py" "$out"

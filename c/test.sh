@@ -1,12 +1,13 @@
 #!/bin/sh
-# Tests c/out/libwelungad.a and c/out/libwelungad.so, which c/build.sh makes: the names that they export, the header as C and as
-# C++, each call of test_calls.c under valgrind, and refused allocations. Ends with a status other than 0 if one fails.
+# Tests c/out/libwelungad.a and c/out/libwelungad.so, which c/build.sh makes: the names that they export, the soname, the header as
+# C and as C++, each call of test_calls.c under valgrind, the example, and refused allocations. Ends with a status other than 0 if
+# one fails.
 set -eu
-here=$(cd "$(dirname "$0")" && pwd)
+here=$(dirname -- "$(readlink -f -- "$0")")
+top=$(dirname -- "$here")
 out=$here/out
-warnings='-Wall -Wextra -Wpedantic -Werror'
-valgrind='valgrind -q --error-exitcode=9 --leak-check=full --show-leak-kinds=all --errors-for-leak-kinds=all'
-names='welungad_interface welungad_run'
+release=$(cat "$top/VERSION")
+names='welungad_interface welungad_run welungad_version'
 
 # Ends the tests.
 fail() {
@@ -19,22 +20,32 @@ listed() {
     nm "$@" --defined-only | awk 'NF == 3 && $2 ~ /[A-Z]/ { print $3 }' | sort | tr '\n' ' ' | sed 's/ $//'
 }
 
+# compiled PROGRAM FILE FLAG..: compiles a C program into c/out.
+compiled() {
+    program=$1
+    shift
+    cc -std=c99 -D_POSIX_C_SOURCE=200809L -g -O1 -Wall -Wextra -Wpedantic -Werror -I"$here" -DRELEASE="\"$release\"" \
+        -o "$out/$program" "$@" || fail "$program doesn't compile"
+}
+
+# Runs a program under valgrind.
+watched() {
+    valgrind -q --error-exitcode=9 --leak-check=full --show-leak-kinds=all --errors-for-leak-kinds=all "$@"
+}
+
 [ "$(listed -D "$out/libwelungad.so")" = "$names" ] || fail "libwelungad.so exports $(listed -D "$out/libwelungad.so")"
 [ "$(listed -g "$out/libwelungad.a")" = "$names" ] || fail "libwelungad.a exports $(listed -g "$out/libwelungad.a")"
-# shellcheck disable=SC2086
-cc -x c -std=c99 $warnings -fsyntax-only "$here/welungad.h"
-# shellcheck disable=SC2086
-cc -x c++ -std=c++11 $warnings -fsyntax-only "$here/welungad.h"
+readelf -d "$out/libwelungad.so" | grep -q 'soname: \[libwelungad.so.1\]' || fail "libwelungad.so has another soname"
+cc -x c -std=c99 -Wall -Wextra -Wpedantic -Werror -fsyntax-only "$here/welungad.h"
+cc -x c++ -std=c++11 -Wall -Wextra -Wpedantic -Werror -fsyntax-only "$here/welungad.h"
 
-# shellcheck disable=SC2086
-cc -std=c99 -D_POSIX_C_SOURCE=200809L -g -O1 $warnings -o "$out/test_calls" "$here/test_calls.c" "$out/libwelungad.a" -lpthread
-# shellcheck disable=SC2086
-cc -std=c99 -D_POSIX_C_SOURCE=200809L -g -O1 $warnings -o "$out/test_calls_shared" "$here/test_calls.c" -L"$out" -lwelungad \
-    -Wl,-rpath,"$out" -lpthread
-# shellcheck disable=SC2086
-cc -std=c99 -g -O1 $warnings -Wl,--wrap=malloc,--wrap=realloc,--wrap=free -o "$out/test_memory" "$here/test_memory.c" \
-    "$out/libwelungad.a"
-$valgrind "$out/test_calls" || fail "test_calls under valgrind"
+compiled test_calls "$here/test_calls.c" "$out/libwelungad.a" -lpthread
+compiled test_calls_shared "$here/test_calls.c" -L"$out" -lwelungad -Wl,-rpath,"$out" -lpthread
+compiled test_memory -Wl,--wrap=malloc,--wrap=realloc,--wrap=free "$here/test_memory.c" "$out/libwelungad.a"
+compiled decide "$here/examples/decide.c" "$out/libwelungad.a"
+watched "$out/test_calls" || fail "test_calls under valgrind"
 "$out/test_calls_shared" || fail "test_calls over libwelungad.so"
 "$out/test_memory" || fail "test_memory"
-$valgrind "$out/test_memory" 2>/dev/null || fail "test_memory under valgrind"
+watched "$out/test_memory" 2>/dev/null || fail "test_memory under valgrind"
+watched "$out/decide" "$top/examples/holm.txt" >"$out/printed" || fail "the example under valgrind"
+grep -qx 'rejected H1 H2 H3' "$out/printed" || fail "the example prints something else"

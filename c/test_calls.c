@@ -1,4 +1,4 @@
-/* Whether welungad_run does what welungad.h says: each status, each room, words, limits, evidence, threads.
+/* Whether the calls do what welungad.h says: each status, each room, words, limits, evidence, threads, no pointers, the release.
  *
  * All blocks have exactly the lengths that are handed in, so that valgrind reports a read or a write past them. */
 #include <pthread.h>
@@ -134,6 +134,26 @@ static void evidence_is_checked(void) {
   free(made.out.bytes);
 }
 
+/* A NULL for no bytes is answered as another pointer to none. */
+static void no_pointers(void) {
+  static const char usage[] = "usage: word 1\n";
+  uint8_t out[64];
+  size_t needed = 77;
+  MUST(welungad_run(NULL, 0, NULL, 0, NULL, 0, NULL, 0, &needed) == WELUNGAD_ROOM && needed == strlen(usage));
+  needed = 77;
+  MUST(welungad_run(NULL, 0, NULL, 0, NULL, 0, out, sizeof out, &needed) == WELUNGAD_USAGE && needed == strlen(usage) &&
+       memcmp(out, usage, strlen(usage)) == 0);
+  needed = 77;
+  MUST(welungad_run((const uint8_t *)"test", 5, NULL, 0, NULL, 0, out, sizeof out, &needed) == WELUNGAD_MALFORMED &&
+       needed == 25 && memcmp(out, "malformed: line 1: ended\n", 25) == 0);
+  needed = 77;
+  MUST(welungad_run((const uint8_t *)"test", 5, (const uint8_t *)HOLM, strlen(HOLM), NULL, 0, NULL, 0, &needed) ==
+           WELUNGAD_ROOM &&
+       needed == strlen(REPORT));
+  needed = 77;
+  MUST(welungad_run((const uint8_t *)"test", 4, NULL, 0, NULL, 0, NULL, 0, &needed) == WELUNGAD_WORDS && needed == 0);
+}
+
 static void *in_thread(void *unused) {
   size_t bad = 0;
   int k;
@@ -160,6 +180,8 @@ static void threads_with_small_stacks(void) {
 
 int main(void) {
   MUST(welungad_interface() == WELUNGAD_INTERFACE);
+  MUST(strcmp(welungad_version(), RELEASE) == 0);
+  no_pointers();
   each_room();
   each_list_of_words();
   each_refusal();

@@ -4,7 +4,7 @@
  * file, device or global variable.
  *
  * What the caller owes. Nothing checks it, and no proof holds without it:
- * - No pointer is NULL, even if its length is 0.
+ * - No pointer is NULL, but those to no bytes: words, kase, proof and out may be NULL if their length is 0.
  * - The bytes at words, kase and proof stay as they are during the call. They may overlap each other.
  * - out and *needed overlap neither each other nor the inputs.
  * - malloc, realloc and free are of one allocator, and align a block to each power of two up to 16 that divides its size.
@@ -13,7 +13,9 @@
  *
  * Threads. Calls may run at the same time in different threads, each with an out and a needed of its own.
  *
- * Time. A call cannot be stopped. A case is limited to 64 hypotheses and 4 MiB; weights, bounds and simes to 16 hypotheses. */
+ * Time. A call that has begun cannot be stopped, so make it in a thread of its own if somebody waits. test takes milliseconds.
+ * weights, bounds and simes of 16 hypotheses take half a second, and about 3 seconds if edges have an epsilon; more for several
+ * graphs. A case is limited to 64 hypotheses, 8 graphs and 4 MiB; for weights, bounds and simes to 16 hypotheses. */
 #ifndef WELUNGAD_H
 #define WELUNGAD_H
 
@@ -29,6 +31,9 @@ extern "C" {
 /* Returns the number of the interface that the library was built with. Compare it with WELUNGAD_INTERFACE: it changes when a
  * parameter, a status or the meaning of a call changes. */
 uint32_t welungad_interface(void);
+
+/* Returns the release that the library was built from, such as "0.1.0". The text belongs to the library. */
+const char *welungad_version(void);
 
 enum {
   WELUNGAD_DONE = 0,       /* The text is the report, the evidence or the case. */
@@ -46,7 +51,7 @@ enum {
  *
  * words   The words after the program's name, each ended by a byte 0: "test\0" (5 bytes), "check\0-\0" (8 bytes). A study's
  *         words are answered with WELUNGAD_USAGE.
- * kase    The bytes that the program reads from standard input. Give a pointer and length 0 if the words read no case.
+ * kase    The bytes that the program reads from standard input. Give length 0 if the words read no case.
  * proof   The bytes that the program reads from the file of "check FILE". FILE itself is any word; it is not opened.
  * out     Room for the text. What is after the text stays. If the text does not fit, the status is WELUNGAD_ROOM and out holds
  *         the text's first out_len bytes; call again with room for *needed bytes. The same inputs have the same answer, unless

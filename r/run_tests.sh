@@ -2,14 +2,14 @@
 # Builds the package and runs R CMD check with its tests. A way to the proved call has to be there:
 # - the C library, in the folders that WELUNGAD_INCLUDE and WELUNGAD_LIB name, else under WELUNGAD_PREFIX, else in c/out;
 # - the program, which WELUNGAD names, else crates/welungad/out/welungad, else that of WELUNGAD_PREFIX, else that of the path.
-# Prints a line and ends with 0 if R or a package is missing; ends with another status if a test fails.
+# Prints a line and ends with 77 if R or a package is missing; ends with another status if a test fails.
 set -eu
-here=$(cd "$(dirname "$0")" && pwd)
+here=$(dirname -- "$(readlink -f -- "$0")")
 top=$(dirname "$here")
 
 skip() {
     echo "r/run_tests.sh: skipped, since $1"
-    exit 0
+    exit 77
 }
 
 for tool in R Rscript; do

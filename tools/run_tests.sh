@@ -1,16 +1,22 @@
 #!/bin/sh
-# Runs the tests of the tools and of the scripts at the top. Ends with a status other than 0 if one fails. Says which program is
-# missing on this machine; what needs it is skipped.
+# Runs the tests of the tools and of the scripts at the top. Ends with a status other than 0 if one fails, and with 77 and a line if a
+# tool is missing: then the tests that need it are skipped, and the others are run.
 set -eu
-cd "$(dirname "$0")"
-if ! command -v python3 >/dev/null; then
-    echo "tools: python3 is missing, so no test of the tools is run"
-    exit 0
-fi
-for name in git man; do
-    if ! command -v "$name" >/dev/null; then echo "tools: $name is missing, so the tests that need it are skipped"; fi
+here=$(dirname -- "$(readlink -f -- "$0")")
+cd -- "$here"
+
+# Ends with the line of a check that is skipped, in part or as a whole.
+skip() {
+    echo "tools/run_tests.sh: skipped${2-}, since this is missing: $1"
+    exit 77
+}
+
+command -v python3 >/dev/null || skip python3
+missing=
+for name in git man cc objcopy pkg-config valgrind; do
+    command -v "$name" >/dev/null || missing="${missing:+$missing, }$name"
 done
-if [ ! -x ../crates/welungad/out/welungad ]; then
-    echo "tools: the program isn't built, so the tests that run it are skipped"
-fi
-PYTHONDONTWRITEBYTECODE=1 exec python3 -m unittest test_tools
+[ -x ../crates/welungad/out/welungad ] || missing="${missing:+$missing, }the built program"
+[ -f ../c/out/stamp ] || missing="${missing:+$missing, }the built C library"
+PYTHONDONTWRITEBYTECODE=1 python3 -m unittest test_tools test_install
+[ -z "$missing" ] || skip "$missing" " in part"

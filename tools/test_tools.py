@@ -1,4 +1,4 @@
-"""Tests of the scripts in this folder, of the examples and of the scripts at the top. `tools/run_tests.sh` runs them.
+"""Tests of the scripts in this folder, of the examples and of the manual page. `tools/run_tests.sh` runs them.
 
 Expected values are those of the rows in crates/acceptance/data, which are by hand, or are here by hand.
 """
@@ -6,7 +6,6 @@ import hashlib
 import os
 import re
 import shutil
-import stat
 import subprocess
 import sys
 import tempfile
@@ -414,143 +413,6 @@ class Manual(unittest.TestCase):
         done = subprocess.run(["man", "--warnings", "-l", path], capture_output=True, text=True, env={**os.environ, "MANPAGER": "cat"})
         self.assertEqual((done.returncode, done.stderr), (0, ""))
         self.assertIn("WELUNGAD(1)", done.stdout)
-
-
-BUILDS = """#!/bin/sh
-# A stand-in for rt: `rt run -- help` builds a program that prints how often it was built.
-if [ "$1" = version ]; then echo a-kit logic 1; exit; fi
-if [ "$1" = try ]; then for word in "$@"; do echo "[$word]"; done; exit; fi
-echo built >>out/builds
-{ echo '#!/bin/sh'; echo "echo $(grep -c . out/builds) \\$#; cat"; } >out/welungad
-chmod +x out/welungad
-"""
-
-
-class Scripts(unittest.TestCase):
-    """The scripts at the top, over a small repository and a stand-in for rt."""
-
-    def setUp(self):
-        self.room = tempfile.TemporaryDirectory(prefix="a room ")
-        self.addCleanup(self.room.cleanup)
-        self.top = os.path.join(self.room.name, "top")
-        self.write("crates/welungad/src/main.rt", "fn main() {}\n")
-        self.write("crates.txt", "welungad:\n")
-        self.write(".gitignore", "out/\n")
-        self.write("bin/rt", BUILDS, 0o755)
-        for name in ("welungad", "install", "uninstall", "unproved"):
-            self.write(name, content(name), 0o755)
-        for name in ("README.md", "docs/welungad.1", "docs/FORMATS.md", "examples/holm.txt", "tools/draw.py"):
-            self.write(name, f"{name}\n")
-        self.environment = {**os.environ, "PATH": f"{self.top}/bin:{os.environ['PATH']}", "GIT_CONFIG_GLOBAL": "/dev/null"}
-
-    def write(self, name, text, mode=0o644):
-        path = os.path.join(self.top, name)
-        os.makedirs(os.path.dirname(path), exist_ok=True)
-        with open(path, "w", encoding="utf-8") as file:
-            file.write(text)
-        os.chmod(path, mode)
-
-    def run_script(self, *words, given="", where=None):
-        done = subprocess.run(
-            [os.path.join(self.top, words[0]), *words[1:]], input=given, capture_output=True, text=True, env=self.environment, cwd=where
-        )
-        return done.returncode, done.stdout, done.stderr
-
-    def commit(self):
-        for words in (["init", "-q"], ["add", "-A"], ["-c", "user.name=a", "-c", "user.email=a@b", "commit", "-qm", "a"]):
-            subprocess.run(["git", *words], cwd=self.top, check=True, env=self.environment)
-
-    @unittest.skipUnless(shutil.which("git"), "git is missing")
-    def test_stale_builds(self):
-        """Whether the program is built once, and again for a commit that changes a source, and for no other."""
-        self.commit()
-        self.assertEqual(self.run_script("welungad", "a b", "c", given="text")[:2], (0, "1 2\ntext"))
-        self.assertEqual(self.run_script("welungad"), (0, "1 0\n", ""))
-        self.write("docs/FORMATS.md", "more\n")
-        self.commit()
-        self.assertEqual(self.run_script("welungad"), (0, "1 0\n", ""))
-        self.write("crates/welungad/src/main.rt", "fn main() { }\n")
-        self.assertEqual(self.run_script("welungad"), (0, "1 0\n", ""))
-        self.commit()
-        self.assertEqual(self.run_script("welungad")[:2], (0, "2 0\n"))
-        self.assertEqual(self.run_script("welungad"), (0, "2 0\n", ""))
-
-    @unittest.skipUnless(shutil.which("git"), "git is missing")
-    def test_edited_sources(self):
-        """Whether a build from sources that aren't committed is tested again at each call."""
-        self.commit()
-        self.write("crates/welungad/src/main.rt", "fn main() { }\n")
-        self.assertEqual(self.run_script("welungad")[:2], (0, "1 0\n"))
-        self.assertEqual(self.run_script("welungad")[:2], (0, "2 0\n"))
-        self.assertEqual(self.run_script("install", os.path.join(self.room.name, "prefix"))[0], 1)
-
-    def test_reading_alone(self):
-        """Whether a built checkout is run without a write to it, and without git's folder."""
-        self.run_script("welungad")
-        paths = [os.path.join(folder, name) for folder, _, names in os.walk(self.top) for name in ["", *names]]
-        for path in paths:
-            os.chmod(path, os.stat(path).st_mode & ~(stat.S_IWUSR | stat.S_IWGRP | stat.S_IWOTH))
-        before = [(path, os.stat(path).st_mtime_ns) for path in paths]
-        self.assertEqual(self.run_script("welungad"), (0, "1 0\n", ""))
-        self.assertEqual([(path, os.stat(path).st_mtime_ns) for path in paths], before)
-        for path in paths:
-            os.chmod(path, os.stat(path).st_mode | stat.S_IWUSR)
-
-    def test_install(self):
-        """Whether a proved program is installed whole, runs without the checkout, and is removed whole."""
-        prefix = os.path.join(self.room.name, "an empty folder")
-        self.assertEqual(self.run_script("install", prefix)[:2], (1, ""))
-        self.assertFalse(os.path.exists(prefix))
-        self.assertEqual(self.run_script("install")[0], 2)
-        self.run_script("welungad")
-        self.assertEqual(self.run_script("install", prefix)[0], 0)
-        self.assertEqual(self.run_script("install", prefix)[0], 0)
-        moved = self.top + " moved"
-        os.rename(self.top, moved)
-        done = subprocess.run([os.path.join(prefix, "bin", "welungad"), "x"], input="text", capture_output=True, text=True, cwd="/")
-        self.assertEqual(done.stdout, "1 1\ntext")
-        found = {os.path.relpath(os.path.join(folder, name), prefix) for folder, _, names in os.walk(prefix) for name in names}
-        wanted = "README.md docs/welungad.1 docs/FORMATS.md examples/holm.txt tools/draw.py identity installed uninstall".split()
-        wanted = {f"share/welungad/{name}" for name in wanted if not name.endswith(".1")}
-        self.assertEqual(found, wanted | {"bin/welungad", "share/man/man1/welungad.1"})
-        os.rename(moved, self.top)
-        self.write("../an empty folder/bin/other", "")
-        self.assertEqual(self.run_script("uninstall", prefix)[0], 0)
-        self.assertEqual(os.listdir(prefix), ["bin"])
-        self.assertEqual(os.listdir(os.path.join(prefix, "bin")), ["other"])
-        self.assertEqual(self.run_script("uninstall", prefix)[0], 1)
-
-    def test_library(self):
-        """Whether the C library is installed if it is built."""
-        self.run_script("welungad")
-        for name in ("c/out/libwelungad.a", "c/out/libwelungad.so", "c/welungad.h"):
-            self.write(name, name)
-        prefix = os.path.join(self.room.name, "prefix")
-        self.assertEqual(self.run_script("install", prefix)[0], 0)
-        for name in ("lib/libwelungad.a", "lib/libwelungad.so", "include/welungad.h"):
-            self.assertTrue(os.path.isfile(os.path.join(prefix, name)), name)
-
-    def test_another_program(self):
-        """Whether a program that isn't the one that was proved is refused."""
-        self.run_script("welungad")
-        self.write("crates/welungad/out/welungad", "#!/bin/sh\n", 0o755)
-        status, _, errors = self.run_script("install", os.path.join(self.room.name, "prefix"))
-        self.assertEqual(status, 1)
-        self.assertIn("isn't the program that was proved", errors)
-
-    def test_unproved(self):
-        """Whether words keep their blanks, files are handed on, and a file of looks is refused."""
-        self.write("../here/a case", "")
-        where = os.path.join(self.room.name, "here")
-        path = os.path.join(where, "a case")
-        status, words, errors = self.run_script("unproved", "check", "a case", "--form", "text or not", where=where)
-        self.assertEqual((status, errors.count("at each call")), (0, 1))
-        self.assertEqual(words, f"[try]\n[--data]\n[file-1={path}]\n[--]\n[check]\n[file-1]\n[--form]\n[text or not]\n")
-        self.assertEqual(self.run_script("unproved", "help", where=where)[1], "[try]\n[--]\n[help]\n")
-        for words in (["--store", "x"], ["--store=x"]):
-            status, printed, errors = self.run_script("unproved", "study", "a case", *words, where=where)
-            self.assertEqual((status, printed), (2, ""))
-            self.assertIn("no file of looks is kept", errors)
 
 
 @unittest.skipUnless(os.access(PROGRAM, os.X_OK), "the program isn't built")

@@ -1,0 +1,17 @@
+/* The calls of welungad.h that C can make with less care than the proved ones ask for, and the release.
+ *
+ * A proved call takes no NULL, also for no bytes. c/build.sh gives it the name that it has here (c/proved.names). */
+#include "welungad.h"
+
+uint8_t welungad_run_proved(const uint8_t *words, size_t words_len, const uint8_t *kase, size_t kase_len, const uint8_t *proof,
+                            size_t proof_len, uint8_t *out, size_t out_len, size_t *needed);
+
+/* c/build.sh takes the text from the file VERSION. */
+const char *welungad_version(void) { return WELUNGAD_RELEASE; }
+
+uint8_t welungad_run(const uint8_t *words, size_t words_len, const uint8_t *kase, size_t kase_len, const uint8_t *proof,
+                     size_t proof_len, uint8_t *out, size_t out_len, size_t *needed) {
+  uint8_t nothing = 0;
+  return welungad_run_proved(words ? words : &nothing, words_len, kase ? kase : &nothing, kase_len, proof ? proof : &nothing,
+                             proof_len, out ? out : &nothing, out_len, needed);
+}
