@@ -1,11 +1,14 @@
 #!/usr/bin/env python3
 """Draws the graph of a case as SVG.
 
-    tools/draw.py CASE [REPORT] [--form text|csv] [--alpha N] > PICTURE.svg
+    tools/draw.py CASE [REPORT] [--form text|csv|json] [--alpha N] > PICTURE.svg
 
-CASE is a file, as for check_evidence.py; stages are left out. REPORT is a file with what `welungad test` prints for the case:
-what it rejects is then filled, and has the number of its step. A circle has the name of a hypothesis, its weight in each
+CASE is a file, as for check_evidence.py; stages of a text are left out. REPORT is a file with what `welungad test` prints for the
+case: what it rejects is then filled, and has the number of its step. A circle has the name of a hypothesis, its weight in each
 component and its p-value. An arrow has its edge. Each component has its colour. The legend has the level and the shares.
+
+A REPORT that is not the whole report of `test` on CASE (its level, its names and p-values, `end`) is an error with status 1, and
+nothing is drawn. A case that cannot be read ends with the line and the status of check_evidence.py.
 """
 import argparse
 import math
@@ -13,7 +16,8 @@ import re
 import sys
 from html import escape
 
-from check_evidence import Stop, numeral, read_case, require
+from check_evidence import Stop, case_of
+from reports import NotAReport, read_test
 
 COLOURS = ["#1f4e9e", "#b3541e", "#2e7d32", "#7b1fa2", "#00838f", "#8d6e00", "#ad1457", "#455a64"]
 RADIUS, GAP, HIGH = 40, 200, 215
@@ -206,25 +210,32 @@ def picture(case, steps=None):
     )
 
 
+def steps_of(case, report):
+    """The number of the step of each name that a report of `test` rejects. It has to be the report on this case."""
+    decision = read_test(report, case.names)
+    given = {step.name: step.p for step in [*decision.steps, *decision.kept]}
+    if decision.alpha != case.alpha or [given[name] for name in case.names] != case.p:
+        raise NotAReport("the report of test is that of another case: it has another level or other p-values")
+    return {step.name: str(n) for n, step in enumerate(decision.steps, 1)}
+
+
 def main():
-    parser = argparse.ArgumentParser(usage="draw.py CASE [REPORT] [--form text|csv] [--alpha N] > PICTURE.svg", description=__doc__,
+    parser = argparse.ArgumentParser(usage="draw.py CASE [REPORT] [--form text|csv|json] [--alpha N] > PICTURE.svg", description=__doc__,
                                      formatter_class=argparse.RawDescriptionHelpFormatter)
     parser.add_argument("case", type=argparse.FileType("rb"))
-    parser.add_argument("report", nargs="?")
-    parser.add_argument("--form", choices=["text", "csv"], default="text")
+    parser.add_argument("report", type=argparse.FileType("rb"), nargs="?")
+    parser.add_argument("--form", choices=["text", "csv", "json"], default="text")
     parser.add_argument("--alpha")
     words = parser.parse_args()
     try:
-        require((words.form == "csv") == (words.alpha is not None), "usage: --alpha gives the level of a sheet", status=2)
-        text = re.sub(r"(?ms)^[ \t]*stages[ \t].*", "", words.case.read().decode("latin-1"))
-        case = read_case(text, words.form, words.alpha and numeral(words.alpha, "usage: --alpha"))
+        given = words.case.read()
+        case = case_of(re.sub(rb"(?ms)^[ \t]*stages[ \t].*", b"", given) if words.form == "text" else given, words.form, words.alpha)
+        steps = words.report and steps_of(case, words.report.read().decode("latin-1"))
     except Stop as stop:
         sys.stderr.write(stop.args[1])
         sys.exit(stop.args[0])
-    steps = None
-    if words.report:
-        lines = [line.split() for line in open(words.report, encoding="latin-1")]
-        steps = {line[2]: line[1] for line in lines if line[:1] == ["step"]}
+    except NotAReport as error:
+        sys.exit(f"draw.py: {error}")
     sys.stdout.buffer.write(picture(case, steps).encode())
 
 
