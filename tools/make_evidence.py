@@ -3,17 +3,15 @@
 
     tools/make_evidence.py CASE [REPORT] > EVIDENCE
 
-CASE is a file in the text form of docs/FORMATS.md, with single p-values; `welungad canon` writes one from a sheet or from JSON.
-REPORT is a file with what `welungad test` prints for the case: the rejections are then listed in its order, and its weights must
-be those that are found here. Without it the first hypothesis that may be rejected comes next. If there is no document, the
-script ends with status 1 and a line on standard error. It needs Python's standard library alone, and shares no code with
-`welungad`, nor with check_evidence.py, which decides whether a document is evidence.
+CASE is a text as in docs/FORMATS.md, with single p-values; `welungad canon` writes one from a sheet or JSON. REPORT is what
+`welungad test` prints for CASE: its order of rejections is then taken, and its weights must be those that are found here. Without
+it the first hypothesis that may be rejected comes next. If there is no document, the script ends with status 1 and a line on
+standard error. It shares no code with `welungad`, nor with check_evidence.py, which decides whether a document is evidence.
 
 In a graph, let K be the inverse of I - G, with G the edges among the removed hypotheses that pass weight on. Then y = w K is what
 passes through each of them, h = K g_k is the part of the weight of each that arrives at k, and k has the weight w_k + sum y_r g_rk.
 These y are the flows, and these h the exits, of the conditions in docs/FORMATS.md. K is kept as adjugate and determinant of I - G
-with whole rows, which are polynomials in epsilon. A removed hypothesis to which all of its weight would come back passes nothing
-on: its flows and exits are 0.
+with whole rows. A removed hypothesis to which all of its weight would come back passes nothing on: its flows and exits are 0.
 """
 import re
 import sys
@@ -75,20 +73,20 @@ def common_factor(a, b):
     return [x // gcd(*a) for x in a]
 
 
-def quotient_text(above, below):
-    """Returns a quotient as evidence has it, in lowest terms, the lowest coefficient of its denominator positive."""
-    if not above:
-        return "0"
+def lowest_terms(above, below):
+    """Returns the two parts of a quotient without common factors, the lowest coefficient below positive."""
     factor = common_factor(above, below)
     above, below = divided(above, factor), divided(below, factor)
     content = gcd(*above, *below) * (1 if next(filter(None, below)) > 0 else -1)
-    above, below = ([x // content for x in part] for part in (above, below))
-    if len(above) == len(below) == 1:
-        return str(Fraction(above[0], below[0]))
+    return [x // content for x in above], [x // content for x in below]
+
+
+def quotient_text(above, below):
+    """Returns a quotient as evidence has it."""
+    above, below = lowest_terms(above, below)
+    if len(above) <= len(below) == 1:
+        return str(Fraction(*above or [0], *below))
     return "/".join("[" + ",".join(map(str, part)) + "]" for part in (above, below))
-
-
-# ---- the case
 
 
 def numeral(text, at):
@@ -152,8 +150,8 @@ class Component:
 
     def weight(self, k):
         """Returns the weight of k: the limit of a quotient of polynomials."""
-        own, power = times(self.weights[k], self.determinant), next(i for i, x in enumerate(self.determinant) if x)
-        above = plus(own, dot(self.arriving, [self.edges[s][k] for s in self.passing]))
+        power = next(i for i, x in enumerate(self.determinant) if x)
+        above = dot([self.determinant, *self.arriving], [self.weights[k], *(self.edges[s][k] for s in self.passing)])
         return Fraction(above[power] if power < len(above) else 0, self.determinant[power] * self.whole)
 
     def remove(self, j):
@@ -188,9 +186,9 @@ class Case:
         if not all(0 <= x <= 1 for x in [*self.p, self.alpha, sum(part.share for part in self.components)]) or not self.alpha:
             raise ValueError("the level, a p-value or the sum of the shares is not from 0 to 1, or the level is 0")
 
-    def numerals(self, count=None):
+    def numerals(self, most=None):
         at, words = self.lines.pop(0)
-        if count not in (None, len(words) - 1):
+        if most not in (None, len(words) - 1):
             raise ValueError(f"line {at}: there is not one number")
         return [numeral(word, at) for word in words[1:]]
 
@@ -234,14 +232,14 @@ def evidence(case, report=None):
 
 
 def main():
-    parser = ArgumentParser(usage="make_evidence.py CASE [REPORT] > EVIDENCE", description=__doc__, formatter_class=RawDescriptionHelpFormatter)
+    parser = ArgumentParser(description=__doc__, formatter_class=RawDescriptionHelpFormatter)
     parser.add_argument("case", type=FileType("rb"))
     parser.add_argument("report", type=FileType("rb"), nargs="?")
     words = parser.parse_args()
     getattr(sys, "set_int_max_str_digits", int)(0)  # else Python prints no number of more than 4,300 digits
     try:
-        case = Case(words.case.read().decode("latin-1"))
-        print("\n".join(evidence(case, words.report and words.report.read().decode("latin-1"))))
+        report = words.report and words.report.read().decode("latin-1")
+        print("\n".join(evidence(Case(words.case.read().decode("latin-1")), report)))
     except ValueError as error:
         sys.exit(f"make_evidence.py: {error}")
 
