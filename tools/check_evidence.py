@@ -1,6 +1,6 @@
 #!/usr/bin/env python3
 """Checks whether a document is evidence for the rejections of a graphical test. For a reviewer who trusts no program.
-    tools/check_evidence.py CASE EVIDENCE [--form text|csv] [--alpha N]
+    tools/check_evidence.py CASE EVIDENCE [--form text|csv|json] [--alpha N]
 
 CASE and EVIDENCE are files in the formats of docs/FORMATS.md; `--alpha` gives the level of a sheet. The script shares no
 code with `welungad` and needs Python's standard library alone. It prints what `welungad check` prints, with its status:
@@ -23,14 +23,16 @@ of all the others, and the closed test rejects none of them.
 """
 import csv
 import io
+import json
 import re
 import sys
 from argparse import ArgumentParser, FileType, Namespace
 from fractions import Fraction
 from functools import reduce
-from itertools import product, zip_longest
+from itertools import accumulate, product, zip_longest
 
 ZERO, ONE, WIDEST = Fraction(0), Fraction(1), [0, 0]  # so far, the bits of the widest whole number, and the most coefficients
+getattr(sys, "set_int_max_str_digits", int)(0)  # whole numbers of more than 4,300 digits are read
 
 
 class Stop(Exception):
@@ -72,14 +74,20 @@ def is_at_most(a, b):
 
 
 def numeral(text, where):
-    require(re.fullmatch(r"[+-]?([0-9]+/[0-9]+|([0-9]+\.?[0-9]*|\.[0-9]+)([eE][+-]?[0-9]{1,4})?)", text), where, "number")
+    require(re.fullmatch(r"[+-]?([0-9]+/[0-9]+|([0-9]+\.?[0-9]*|\.[0-9]+)([eE][+-]?[0-9]+)?)", text), where, "number")
     require(not re.search("/0+$", text), where, "zero denominator")
-    return Fraction(text)
+    if not re.match("[+-]?[0.]*[1-9]", text):
+        return ZERO
+    size = text.lstrip("+-0")
+    is_short = len(size) <= 4000 and not re.search("[eE][+-]?0*[1-9][0-9]{4}", size)
+    require(is_short, where.replace("malformed", "limit"), "digits", status=4)
+    return -Fraction(size) if text[0] == "-" else Fraction(size)
 
 
 def expression(text, where):
     """The polynomial of `sum = [+|-] term {(+|-) term}`, `term = factor {(*|/) factor | epsilon | (sum)}`."""
     tokens = re.findall(r"\\epsilon|(?:[0-9]+\.?[0-9]*|\.[0-9]+)(?:[eE][+-]?[0-9]+)?|[^ \t]", text) + ["end"]
+    depth, wrong = 0, []  # the parentheses that are open, and the divisors that are no numbers
     def take(wanted):
         require(tokens[0] in wanted, where, "expression")
         return tokens.pop(0)
@@ -93,19 +101,26 @@ def expression(text, where):
         while tokens[0] in ["*", "/", "(", "\\epsilon"]:
             divides = tokens[0] in "*/" and take("*/") == "/"
             other = factor()
-            require(not divides or len(other) == 1, where, "divisor" if other else "zero divisor")
+            if divides and len(other) != 1:
+                wrong.append("divisor" if other else "zero divisor")
+                other = [ONE]
             value = times(value, [1 / other[0]] if divides else other)
         return value
     def factor():
         if re.match("[0-9.]", tokens[0]):
             return trimmed([numeral(tokens.pop(0), where)])
         if take(["(", "\\epsilon"]) == "(":
+            nonlocal depth
+            depth += 1
+            require(depth <= 32, where.replace("malformed", "limit"), "depth", status=4)
             value = terms()
             take(")")
+            depth -= 1
             return value
         return [ZERO] * (int(take([*"0123456789"])) if tokens[0] == "^" and take("^") else 1) + [ONE]
     value = terms()
     take(["end"])
+    require(not wrong, where, *wrong[:1])
     return value
 
 
@@ -153,7 +168,8 @@ def read_text(text):
 
 def read_sheet(text, alpha):
     rows = [[cell.strip(" \t") for cell in row] for row in csv.reader(io.StringIO(text, newline="")) if row]
-    require(rows and rows[0][0] in ("", "hypothesis") and rows[0][1:3] == ["weight", "p"], "malformed: row 1 column 1: header")
+    for column, wanted in enumerate((["", "hypothesis"], ["weight"], ["p"])):
+        require(rows and "".join(rows[0][column : column + 1]) in wanted, f"malformed: row 1 column {column + 1}", "header")
     names, p, part = rows.pop(0)[3:], [], Namespace(share=ONE, weights=[], edges=[])
     for i, row in enumerate(rows):
         at = f"malformed: row {i + 2} column"
@@ -167,34 +183,115 @@ def read_sheet(text, alpha):
     return Namespace(alpha=alpha, names=names, p=[x for x in p if {*p} != {None}], components=[part])
 
 
+class Digits(str):
+    """The text of a JSON number, which may not be past all doubles."""
+
+    def __new__(cls, text):
+        return str.__new__(cls, text) if abs(float(text)) < float("inf") else json.loads("")
+
+
+def loaded(text):
+    """The JSON value of a text, with its numbers as texts."""
+    depths = accumulate((c in "[{") - (c in "]}") for c in re.sub(r'"(\\.|[^"\\])*"', "", text, flags=re.DOTALL))
+    try:
+        require(max(depths, default=0) < 128, "malformed: json", "syntax")
+        value = json.loads(text.encode("latin-1").decode(), parse_int=Digits, parse_float=Digits, parse_constant=Digits)
+        json.dumps(value, ensure_ascii=False).encode()  # half a surrogate is no text
+        return value
+    except ValueError:
+        raise Stop(3, "malformed: json: syntax\n") from None
+
+
+def number_of(value, where, read=numeral):
+    """What a text denotes, or a whole number of at most 64 bits."""
+    require(isinstance(value, str), where, "shape")
+    is_whole = re.fullmatch("0|-?[1-9][0-9]{0,19}", value) and -(2**63) <= int(value) < 2**64
+    require(type(value) is str or is_whole, where, "not whole")
+    return read(value, where)
+
+
+def list_of(value, where, read, *more):
+    require(isinstance(value, list), where, "shape")
+    return [read(item, f"{where}/{i}", *more) for i, item in enumerate(value)]
+
+
+def name_of(value, where, names=None):
+    """A text; with names, the first position that it has among them."""
+    require(type(value) is str, where, "shape")
+    require(names is None or value in names, where, "unknown name")
+    return value if names is None else names.index(value)
+
+
+class Members:
+    """The members of an object without other keys. Those that have a default may be missing."""
+
+    def __init__(self, value, where, *known):
+        require(isinstance(value, dict) and {*value} <= {*known}, where, "shape")
+        self.value, self.where = value, where
+
+    def get(self, key, read, *more, **default):
+        require(key in self.value or default, f"{self.where}/{key}", "shape")
+        return read(self.value[key], f"{self.where}/{key}", *more) if key in self.value else default["default"]
+
+
+def edge_of(value, where, names):
+    part = Members(value, where, "from", "to", "weight")
+    return part.get("from", name_of, names), part.get("to", name_of, names), part.get("weight", number_of, expression)
+
+
+def component_of(value, where, names):
+    part = Members(value, where, "share", "weights", "edges")
+    return Namespace(share=part.get("share", number_of, default=ONE), weights=part.get("weights", list_of, number_of),
+                     edges=part.get("edges", list_of, edge_of, names))
+
+
+def read_json(text):
+    whole = Members(loaded(text), "malformed: ", "alpha", "hypotheses", "p", "components", "stages")
+    alpha, names = whole.get("alpha", number_of), whole.get("hypotheses", list_of, name_of)
+    p = whole.get("p", list_of, lambda value, where: None if value is None else number_of(value, where), default=[])
+    components = whole.get("components", list_of, component_of, names)
+    require("stages" not in whole.value, "malformed: kind")
+    return Namespace(alpha=alpha, names=names, p=p, components=components)
+
+
 def read_case(text, form="text", alpha=None):
-    """A valid case, whose edges are polynomials at pairs of positions."""
-    case = read_text(text) if form == "text" else read_sheet(text.removeprefix("\xef\xbb\xbf"), alpha)
-    names, no = case.names, "malformed: case"
+    """A valid case, whose edges are polynomials at pairs of positions. Each rule is tested of all parts before the next."""
+    case = read_text(text) if form == "text" else read_json(text) if form == "json" else read_sheet(text.removeprefix("\xef\xbb\xbf"), alpha)
+    names, parts, no = case.names, [*enumerate(case.components, 1)], "malformed: case"
+    edges = [(c, i, j, edge) for c, part in parts for i, j, edge in part.edges]
     require(names, no, "no hypothesis")
+    for i, name in enumerate(names, 1):
+        require(re.fullmatch("[A-Za-z0-9_.-]{1,32}", name), no, f"name {i}")
     for i, name in enumerate(names):
-        require(re.fullmatch("[A-Za-z0-9_.-]{1,32}", name), no, f"name {i + 1}")
         require(name not in names[:i], no, f"duplicate name {i + 1}")
+    require(parts, no, "no component")
     require(0 < case.alpha <= 1, no, "alpha")
-    for c, part in enumerate(case.components, 1):
+    for c, part in parts:
         require(part.share >= 0, no, f"share component {c}")
+    require(sum(part.share for _, part in parts) <= 1, no, "share sum")
+    for c, part in parts:
         require(len(part.weights) == len(names), no, f"weight count component {c}")
+    for c, part in parts:
         for weight, name in zip(part.weights, names):
             require(weight >= 0, no, f"weight of {name} component {c}")
+    for c, part in parts:
         require(sum(part.weights) <= 1, no, f"weight sum component {c}")
-        for n, (i, j, edge) in enumerate(part.edges):
-            words = f"edge {names[i]} {names[j]} component {c}"
-            require(i != j or not edge, no, f"self edge of {names[i]} component {c}")
-            require((i, j) not in [x[:2] for x in part.edges[:n]], no, f"repeated {words}")
-            require(is_at_most([], edge) and is_at_most(edge, [ONE]), no, words)
+    for c, i, j, edge in edges:
+        require(i != j or not edge, no, f"self edge of {names[i]} component {c}")
+    firsts = {}
+    for n, (c, i, j, _) in enumerate(edges):
+        require(firsts.setdefault((c, i, j), n) == n, no, f"repeated edge {names[i]} {names[j]} component {c}")
+    for c, i, j, edge in edges:
+        require(is_at_most([], edge) and is_at_most(edge, [ONE]), no, f"edge {names[i]} {names[j]} component {c}")
+    for c, part in parts:
         for i, name in enumerate(names):
             row = reduce(plus, [edge for k, _, edge in part.edges if k == i], [])
             require(is_at_most(row, [ONE]), no, f"row sum of {name} component {c}")
         part.edges = {pair: [] for pair in product(range(len(names)), repeat=2)} | {(i, j): edge for i, j, edge in part.edges}
-    require(sum(part.share for part in case.components) <= 1, no, "share sum")
     require(len(case.p) in (0, len(names)), no, f"p count {len(case.p)}")
     for name, p in zip(names, case.p):
         require(p is not None, no, f"p missing {name}")
+    for name, p in zip(names, case.p):
         require(0 <= p <= 1, no, f"p of {name}")
     case.is_plain = all(len(edge) <= 1 for part in case.components for edge in part.edges.values())
     return case
@@ -209,7 +306,7 @@ def read_numbers(lines, case, word, steps):
             where, words = lines.take(word, 3, 3)
             require(words[:2] == [str(c), case.names[j]], where, word)
             require(re.fullmatch(fraction if case.is_plain else f"{fraction}|{row}/{row}", words[2]), where, "number")
-            above, below = (trimmed([Fraction(x) for x in part.strip("[]").split(",")]) for part in (words[2] + "/1").split("/")[:2])
+            above, below = (trimmed([*map(Fraction, part.strip("[]").split(","))]) for part in (words[2] + "/1").split("/")[:2])
             require(below, where, "number")
             first = [1 / next(x for x in below if x)]
             pairs.append((times(above, first), times(below, first)))
@@ -271,26 +368,32 @@ def check(case, steps, keeps):
         require(level == 0 or case.p[k] > level * case.alpha, no, "legal", status=1)
 
 
+def case_of(given, form="text", alpha=None):
+    """The case that bytes denote."""
+    require((form == "csv") == (alpha is not None), "usage: --alpha gives the level of a sheet", status=2)
+    try:
+        return read_case(given.decode("latin-1"), form, alpha and numeral(alpha, "usage: --alpha"))
+    except csv.Error as error:  # as for a field of more than 131,072 characters
+        raise Stop(4, f"limit: {error}\n") from None
+
+
 def answer(case, evidence, form="text", alpha=None):
     """The status and the text that `welungad check` ends with."""
     try:
-        require((form == "csv") == (alpha is not None), "usage: --alpha gives the level of a sheet", status=2)
-        case = read_case(case.decode("latin-1"), form, alpha and numeral(alpha, "usage: --alpha"))
+        case = case_of(case, form, alpha)
         require(case.p, "malformed: kind")
         version, steps, keeps = read_evidence(evidence.decode("latin-1"), case)
         check(case, steps, keeps)
     except Stop as stop:
         return stop.args
-    except (csv.Error, RecursionError, ValueError) as error:  # as for a numeral of more than 4,300 digits
-        return 4, f"limit: {error}\n"
     lists = [("listed", steps), ("kept", keeps)][: int(version)]
     return 0, "".join(["yes\n", *(" ".join([word, *(case.names[k] for k, _ in part)]) + "\n" for word, part in lists), "end\n"])
 
 
 if __name__ == "__main__":
-    parser = ArgumentParser(usage="check_evidence.py CASE EVIDENCE [--form text|csv] [--alpha N]")
+    parser = ArgumentParser(usage="check_evidence.py CASE EVIDENCE [--form text|csv|json] [--alpha N]")
     parser.add_argument("files", nargs=2, type=FileType("rb"))
-    parser.add_argument("--form", choices=["text", "csv"], default="text")
+    parser.add_argument("--form", choices=["text", "csv", "json"], default="text")
     parser.add_argument("--alpha")
     words = parser.parse_args()
     status, text = answer(*(file.read() for file in words.files), words.form, words.alpha)

@@ -1,7 +1,7 @@
 #!/usr/bin/env python3
 """Decides a graphical test by its definition: the closed test over all intersections, for at most 12 hypotheses.
 
-    tools/closed_test.py CASE [--form text|csv] [--alpha N] [--sets]
+    tools/closed_test.py CASE [--form text|csv|json] [--alpha N] [--sets]
 
 CASE is a file, as for check_evidence.py. Nothing is removed from a graph and no order of rejections is made. For each set I of
 hypotheses and each k in I, and in each component with weights w and edges g, let h be the least solution, none of whose numbers
@@ -21,7 +21,7 @@ import signal
 import sys
 from itertools import combinations
 
-from check_evidence import ONE, ZERO, Stop, limit, numeral, plus, read_case, require, times, trimmed
+from check_evidence import ONE, ZERO, Stop, case_of, limit, plus, require, times, trimmed
 
 
 def exact_quotient(a, b):
@@ -92,17 +92,15 @@ def report(case, with_sets=False):
 
 
 def main():
-    parser = argparse.ArgumentParser(usage="closed_test.py CASE [--form text|csv] [--alpha N] [--sets]", description=__doc__,
+    parser = argparse.ArgumentParser(usage="closed_test.py CASE [--form text|csv|json] [--alpha N] [--sets]", description=__doc__,
                                      formatter_class=argparse.RawDescriptionHelpFormatter)
     parser.add_argument("case", type=argparse.FileType("rb"))
-    parser.add_argument("--form", choices=["text", "csv"], default="text")
+    parser.add_argument("--form", choices=["text", "csv", "json"], default="text")
     parser.add_argument("--alpha")
     parser.add_argument("--sets", action="store_true")
     words = parser.parse_args()
     try:
-        require((words.form == "csv") == (words.alpha is not None), "usage: --alpha gives the level of a sheet", status=2)
-        alpha = words.alpha and numeral(words.alpha, "usage: --alpha")
-        case = read_case(words.case.read().decode("latin-1"), words.form, alpha)
+        case = case_of(words.case.read(), words.form, words.alpha)
         require(case.p, "malformed: kind")
         require(len(case.names) <= 12, f"limit: hypotheses {len(case.names)}", status=4)
         print("\n".join(report(case, words.sets)))

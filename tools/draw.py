@@ -1,11 +1,14 @@
 #!/usr/bin/env python3
 """Draws the graph of a case as SVG.
 
-    tools/draw.py CASE [REPORT] [--form text|csv] [--alpha N] > PICTURE.svg
+    tools/draw.py CASE [REPORT] [--form text|csv|json] [--alpha N] > PICTURE.svg
 
-CASE is a file, as for check_evidence.py; stages are left out. REPORT is a file with what `welungad test` prints for the case:
-what it rejects is then filled, and has the number of its step. A circle has the name of a hypothesis, its weight in each
+CASE is a file, as for check_evidence.py; stages of a text are left out. REPORT is a file with what `welungad test` prints for the
+case: what it rejects is then filled, and has the number of its step. A circle has the name of a hypothesis, its weight in each
 component and its p-value. An arrow has its edge. Each component has its colour. The legend has the level and the shares.
+
+A REPORT that is not the whole report of `test` on CASE (its level, its names and p-values, `end`) is an error with status 1, and
+nothing is drawn. A case that cannot be read ends with the line and the status of check_evidence.py.
 """
 import argparse
 import math
@@ -13,7 +16,8 @@ import re
 import sys
 from html import escape
 
-from check_evidence import Stop, numeral, read_case, require
+from check_evidence import Stop, case_of
+from reports import NotAReport, read_test
 
 COLOURS = ["#1f4e9e", "#b3541e", "#2e7d32", "#7b1fa2", "#00838f", "#8d6e00", "#ad1457", "#455a64"]
 RADIUS, GAP, HIGH = 40, 200, 215
@@ -31,7 +35,9 @@ def short(x):
 
 
 def edge_text(polynomial):
-    """An edge as `welungad canon` prints it, but for long fractions and the signs of epsilon and of products."""
+    """An edge as `welungad canon` prints it, but for long fractions and the signs of epsilon and of products. A text stays."""
+    if isinstance(polynomial, str):
+        return polynomial
     text = ""
     for power, x in enumerate(polynomial):
         if x:
@@ -103,7 +109,7 @@ def bow_of(edges, i, j, c, centre):
     return -bow - 34 if passes and len(rows) == 2 and leftwards != lower else bow
 
 
-def arrows(edges, centre):
+def arrows(edges, centre, prefix):
     """The lines of all arrows, and then their labels, which are put on top; each label is placed so that it covers no other."""
     lines, labels, taken = [], [], [*centre]
     for i, j, c, edge in edges:
@@ -111,7 +117,7 @@ def arrows(edges, centre):
         (a, b), (p, q), (e, f) = curve.points
         lines.append(
             f'<path d="M{a:.1f},{b:.1f} Q{p:.1f},{q:.1f} {e:.1f},{f:.1f}" fill="none" stroke="{COLOURS[c % 8]}" '
-            f'stroke-width="1.6" marker-end="url(#head{c % 8})"/>'
+            f'stroke-width="1.6" marker-end="url(#{prefix}head{c % 8})"/>'
         )
         text = edge_text(edge)
         wide = 8.2 * len(text) + 6
@@ -144,8 +150,9 @@ def circle(case, i, centre, step):
         drawn.append(text_at(x, y - 11, name, min(16, 2 * RADIUS / (0.7 * max(len(name), 4))), weight="bold"))
     else:
         drawn.append(text_at(x, y + (RADIUS + 25) * (-1 if down <= 0 else 1), name, 12, weight="bold"))
-    weights = [(short(part.weights[i]), COLOURS[c % 8] if len(case.components) > 1 else "#111") for c, part in enumerate(case.components)]
-    wide = 2 * RADIUS * 0.75 / len(weights)
+    weights = [(short(part.weights[i]), COLOURS[c % 8] if len(case.components) > 1 else "#111") for c, part in enumerate(case.components)
+               if part.weights[i] is not None]
+    wide = 2 * RADIUS * 0.75 / max(1, len(weights))
     for n, (weight, colour) in enumerate(weights):
         size = min(15, 1.7 * wide / max(3, len(weight)))
         drawn.append(text_at(x + (n - (len(weights) - 1) / 2) * wide, y + 7, weight, size, colour))
@@ -163,68 +170,88 @@ def legend(case, edges, steps):
     lines = [("#111", f"level α = {decimal(case.alpha)}")]
     if len(case.components) > 1 or case.components[0].share != 1:
         lines += [(COLOURS[c % 8], f"component {c + 1}: share {part.share}") for c, part in enumerate(case.components)]
-    if any(len(edge) > 1 for _, _, _, edge in edges):
+    if any("ε" in edge_text(edge) for _, _, _, edge in edges):
         lines.append(("#111", "ε: a positive number below every positive fraction"))
     if steps is not None:
         lines.append(("#111", "filled: rejected, with the number of the step"))
     return lines
 
 
-def picture(case, steps=None):
-    """The SVG text. `steps` gives the number of the step of each rejected name."""
-    edges = [(i, j, c, edge) for c, part in enumerate(case.components) for (i, j), edge in part.edges.items() if edge]
-    centre = centres(case, edges)
-    drawn = arrows(edges, centre)
-    for i, name in enumerate(case.names):
-        drawn += circle(case, i, centre, (steps or {}).get(name))
-    lines = legend(case, edges, steps)
+def edges_of(case):
+    """The edges that are not 0, each with its ends and its component."""
+    return [(i, j, c, edge) for c, part in enumerate(case.components) for (i, j), edge in part.edges.items() if edge]
+
+
+def frame(case, edges, centre, lines):
+    """The left, upper, right and lower end of a picture, which has the lines of the legend at its lower end."""
     xs, ys = [[x for x, _ in centre], [y for _, y in centre]]
     far = max([0, *(abs(bow_of(edges, i, j, c, centre)) for i, j, c, _ in edges if ys[i] == ys[j])])
     side = max(75, *(4 * len(name) for name in case.names))
-    left, right = min(xs) - side, max(xs) + side
     high = max(RADIUS + (40 if any(len(name) > 10 for name in case.names) else 25), far + 18)
-    top, bottom = min(ys) - high, max(ys) + high + 18
-    right = max(right, left + 30 + max(8.2 * len(text) for _, text in lines))
-    drawn += [text_at(left + 16, bottom + 20 * n, text, 14, colour, "start") for n, (colour, text) in enumerate(lines)]
-    bottom += 20 * len(lines)
+    left = min(xs) - side
+    right = max(max(xs) + side, left + 30 + max(8.2 * len(text) for _, text in lines))
+    return left, min(ys) - high, right, max(ys) + high + 18 + 20 * len(lines)
+
+
+def opening(size, prefix, title, description):
+    """The first tag of a picture. With a title it names and describes itself to readers that do not see it."""
+    left, top, right, bottom = size
+    box = f"{left:.0f} {top:.0f} {right - left:.0f} {bottom - top:.0f}"
+    font = 'font-family="DejaVu Sans, Verdana, Helvetica, sans-serif"'
+    tag = f'<svg xmlns="http://www.w3.org/2000/svg" viewBox="{box}" width="{right - left:.0f}" height="{bottom - top:.0f}" {font}'
+    if title is None:
+        return tag + ">"
+    texts = f'<title id="{prefix}title">{escape(title)}</title>\n<desc id="{prefix}desc">{escape(description)}</desc>'
+    return f'{tag} role="img" aria-labelledby="{prefix}title {prefix}desc">\n{texts}'
+
+
+def picture(case, steps=None, centre=None, prefix="", title=None, description=""):
+    """The SVG text. `steps` gives the number of the step of each rejected name, `centre` the place of each circle, `prefix` how
+    the names in the picture begin. A weight that is None is left out, and an edge may be a text."""
+    edges = edges_of(case)
+    centre = centre or centres(case, edges)
+    lines = legend(case, edges, steps)
+    size = left, top, _, bottom = frame(case, edges, centre, lines)
+    drawn = arrows(edges, centre, prefix)
+    for i, name in enumerate(case.names):
+        drawn += circle(case, i, centre, (steps or {}).get(name))
+    first = bottom - 20 * len(lines)
+    drawn += [text_at(left + 16, first + 20 * n, text, 14, colour, "start") for n, (colour, text) in enumerate(lines)]
     heads = "".join(
-        f'<marker id="head{c}" viewBox="0 0 10 10" refX="8" refY="5" markerWidth="7" markerHeight="7" orient="auto">'
-        f'<path d="M0,1 L9,5 L0,9 z" fill="{colour}"/></marker>'
-        for c, colour in enumerate(COLOURS)
+        f'<marker id="{prefix}head{c}" viewBox="0 0 10 10" refX="8" refY="5" markerWidth="7" markerHeight="7" orient="auto">'
+        f'<path d="M0,1 L9,5 L0,9 z" fill="{COLOURS[c]}"/></marker>'
+        for c in sorted({c % 8 for _, _, c, _ in edges})
     )
-    size = f"{left:.0f} {top:.0f} {right - left:.0f} {bottom - top:.0f}"
-    return "\n".join(
-        [
-            f'<svg xmlns="http://www.w3.org/2000/svg" viewBox="{size}" width="{right - left:.0f}" height="{bottom - top:.0f}" '
-            'font-family="DejaVu Sans, Verdana, Helvetica, sans-serif">',
-            f"<defs>{heads}</defs>",
-            f'<rect x="{left:.0f}" y="{top:.0f}" width="100%" height="100%" fill="#fff"/>',
-            *drawn,
-            "</svg>",
-            "",
-        ]
-    )
+    paper = f'<rect x="{left:.0f}" y="{top:.0f}" width="100%" height="100%" fill="#fff"/>'
+    return "\n".join([opening(size, prefix, title, description), f"<defs>{heads}</defs>", paper, *drawn, "</svg>", ""])
+
+
+def steps_of(case, report):
+    """The number of the step of each name that a report of `test` rejects. It has to be the report on this case."""
+    decision = read_test(report, case.names)
+    given = {step.name: step.p for step in [*decision.steps, *decision.kept]}
+    if decision.alpha != case.alpha or [given[name] for name in case.names] != case.p:
+        raise NotAReport("the report of test is that of another case: it has another level or other p-values")
+    return {step.name: str(n) for n, step in enumerate(decision.steps, 1)}
 
 
 def main():
-    parser = argparse.ArgumentParser(usage="draw.py CASE [REPORT] [--form text|csv] [--alpha N] > PICTURE.svg", description=__doc__,
+    parser = argparse.ArgumentParser(usage="draw.py CASE [REPORT] [--form text|csv|json] [--alpha N] > PICTURE.svg", description=__doc__,
                                      formatter_class=argparse.RawDescriptionHelpFormatter)
     parser.add_argument("case", type=argparse.FileType("rb"))
-    parser.add_argument("report", nargs="?")
-    parser.add_argument("--form", choices=["text", "csv"], default="text")
+    parser.add_argument("report", type=argparse.FileType("rb"), nargs="?")
+    parser.add_argument("--form", choices=["text", "csv", "json"], default="text")
     parser.add_argument("--alpha")
     words = parser.parse_args()
     try:
-        require((words.form == "csv") == (words.alpha is not None), "usage: --alpha gives the level of a sheet", status=2)
-        text = re.sub(r"(?ms)^[ \t]*stages[ \t].*", "", words.case.read().decode("latin-1"))
-        case = read_case(text, words.form, words.alpha and numeral(words.alpha, "usage: --alpha"))
+        given = words.case.read()
+        case = case_of(re.sub(rb"(?ms)^[ \t]*stages[ \t].*", b"", given) if words.form == "text" else given, words.form, words.alpha)
+        steps = words.report and steps_of(case, words.report.read().decode("latin-1"))
     except Stop as stop:
         sys.stderr.write(stop.args[1])
         sys.exit(stop.args[0])
-    steps = None
-    if words.report:
-        lines = [line.split() for line in open(words.report, encoding="latin-1")]
-        steps = {line[2]: line[1] for line in lines if line[:1] == ["step"]}
+    except NotAReport as error:
+        sys.exit(f"draw.py: {error}")
     sys.stdout.buffer.write(picture(case, steps).encode())
 
 

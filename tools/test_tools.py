@@ -13,12 +13,15 @@ import unittest
 import xml.etree.ElementTree
 from fractions import Fraction
 
-import check_evidence
-import closed_test
-import draw
-
 TOOLS = os.path.dirname(os.path.abspath(__file__))
 TOP = os.path.dirname(TOOLS)
+sys.path.append(os.path.join(TOP, "python"))
+
+import acceptance_rows  # noqa: E402
+import check_evidence  # noqa: E402
+import closed_test  # noqa: E402
+import draw  # noqa: E402
+
 PROGRAM = os.path.join(TOP, "crates", "welungad", "out", "welungad")
 SVG = "{http://www.w3.org/2000/svg}"
 
@@ -247,6 +250,85 @@ class Checker(unittest.TestCase):
         self.assertEqual(answer(sheet.replace('"H2","1/3"', '"H9","1/3"'), proof, "csv", "1"), (3, "malformed: row 3 column 1: name\n"))
         self.assertEqual(answer(sheet.replace("0.005", "NA"), proof, "csv", "1"), (3, "malformed: case: p missing H2\n"))
 
+    def test_numerals(self):
+        """Whether a numeral has the value that its grammar gives it, in particular with zeros in its exponent."""
+        for text, wanted in [("1e-00001", "1/10"), ("+.5E+0002", "50"), ("-1.", "-1"), ("010/4", "5/2"), ("0e99999999", "0"), ("0.0", "0")]:
+            with self.subTest(text):
+                self.assertEqual(check_evidence.numeral(text, "malformed: line 1"), Fraction(wanted))
+        for text, wanted in [
+            ("1e", (3, "malformed: line 1: number\n")),
+            ("1e-1.5", (3, "malformed: line 1: number\n")),
+            (".", (3, "malformed: line 1: number\n")),
+            ("1_0", (3, "malformed: line 1: number\n")),
+            ("1/00", (3, "malformed: line 1: zero denominator\n")),
+            ("1e-99999", (4, "limit: line 1: digits\n")),
+        ]:
+            with self.subTest(text), self.assertRaises(check_evidence.Stop) as stop:
+                check_evidence.numeral(text, "malformed: line 1")
+            self.assertEqual(stop.exception.args, wanted)
+
+    def test_parentheses(self):
+        """Whether 32 parentheses may be open, and 33 are refused by each script in one line."""
+        for count, wanted in [(32, 0), (33, 4)]:
+            case = SEQUENCE.replace("edge H1 H2 1", "edge H1 H2 " + "(" * count + "1" + ")" * count)
+            self.assertEqual(answer(case, KEEP_PROOF)[0], wanted)
+        with tempfile.TemporaryDirectory() as room:
+            path = os.path.join(room, "case")
+            with open(path, "w", encoding="utf-8") as file:
+                file.write(SEQUENCE.replace("edge H1 H2 1", "edge H1 H2 " + "(" * 4000 + "1" + ")" * 4000))
+            for words in (["check_evidence.py", path, path], ["closed_test.py", path], ["draw.py", path]):
+                done = subprocess.run([sys.executable, os.path.join(TOOLS, words[0]), *words[1:]], capture_output=True, text=True)
+                self.assertEqual((done.returncode, done.stdout + done.stderr), (4, "limit: line 6: depth\n"), words)
+
+    def test_first_faults(self):
+        """Whether a fault of the form of an expression comes before a divisor that is not a number, wherever it is."""
+        for text, wanted in [("1/0+", "expression"), ("1/0*(1", "expression"), ("1/\\epsilon/0", "divisor"), ("1/0/\\epsilon", "zero divisor")]:
+            with self.subTest(text), self.assertRaises(check_evidence.Stop) as stop:
+                check_evidence.expression(text, "malformed: line 1")
+            self.assertEqual(stop.exception.args, (3, f"malformed: line 1: {wanted}\n"))
+
+    def test_forms(self):
+        """Whether each case of the tables that is refused as malformed is refused by the same line, in all three forms, and each
+        JSON case that is decided is read. Stages are left out: the script refuses them by their kind."""
+        counts = dict.fromkeys(("text", "csv", "json"), 0)
+        for row in acceptance_rows.all_rows():
+            words = " ".join(row.words).replace("=", " ").split()
+            given = dict(zip(words, words[1:]))
+            form = given.get("--form", "text")
+            if words[:1] != ["test"] or row.status not in (0, 3) or b"stages" in row.case or not row.printed:
+                continue
+            try:
+                case = check_evidence.case_of(row.case, form, given.get("--alpha"))
+                said = (0, b"") if case.p else (3, b"malformed: kind\n")
+            except check_evidence.Stop as stop:
+                said = (stop.args[0], stop.args[1].encode())
+            counts[form] += 1
+            with self.subTest(row.place):
+                self.assertEqual(said, (row.status, row.printed[0] if row.status else b""))
+        self.assertTrue(all(count > 20 for count in counts.values()), counts)
+
+    def test_json_texts(self):
+        """Whether JSON is read exactly: numbers as they are written, and nothing that is not JSON."""
+        case = '{"alpha":"1/20","hypotheses":["A"],"p":["0.05"],"components":[{"weights":["1"],"edges":[]}]}'
+        proof = "evidence 1\nstep A\nend\n"
+        self.assertEqual(answer(case, proof, "json"), (0, "yes\nlisted A\nend\n"))
+        self.assertEqual(answer(case.replace("0.05", "0." + "0" * 30 + "5"), proof, "json")[0], 0)
+        self.assertEqual(answer(case.replace("0.05", "0.05" + "0" * 20 + "1"), proof, "json"), (1, "no: step 1: above level\n"))
+        for old, new, wanted in [
+            ('"0.05"', "0.05", "/p/0: not whole"),
+            ('"0.05"', "1e999", "json: syntax"),
+            ('"0.05"', "NaN", "json: syntax"),
+            ('"0.05"', "-0", "/p/0: not whole"),
+            ('"0.05"', "18446744073709551616", "/p/0: not whole"),
+            ('"0.05"', "true", "/p/0: shape"),
+            ('["A"]', '["\\ud800"]', "json: syntax"),
+            ('["A"]', '["A\n"]', "json: syntax"),
+            ('["A"]', "[1]", "/hypotheses/0: shape"),
+            ("{", "\ufeff{", "json: syntax"),
+        ]:
+            with self.subTest(new):
+                self.assertEqual(answer(case.replace(old, new, 1), proof, "json"), (3, f"malformed: {wanted}\n"))
+
     def test_wide_numbers(self):
         """Whether numbers of any size are decided, and a note says so."""
         wide = 10**60 + 7
@@ -267,15 +349,16 @@ class Checker(unittest.TestCase):
     def test_no_answer(self):
         """Whether what isn't decided ends with no status of a yes or a no."""
         deep = SEQUENCE.replace("edge H1 H2 1", "edge H1 H2 " + "(" * 4000 + "1" + ")" * 4000)
-        self.assertEqual(answer(deep, KEEP_PROOF)[0], 4)
+        self.assertEqual(answer(deep, KEEP_PROOF), (4, "limit: line 6: depth\n"))
         self.assertEqual(answer(SEQUENCE.replace("0.025", "0." + "1" * 9000), KEEP_PROOF)[0], 4)
         done = subprocess.run([sys.executable, os.path.join(TOOLS, "check_evidence.py"), "no such file", "nor this"], capture_output=True)
         self.assertEqual((done.returncode, done.stdout), (2, b""))
 
     def test_length(self):
         """Whether the two scripts for reviewers are short."""
-        self.assertLessEqual(content("tools", "check_evidence.py").count("\n"), 300)
+        self.assertLessEqual(content("tools", "check_evidence.py").count("\n"), 410)
         self.assertLessEqual(content("tools", "closed_test.py").count("\n"), 120)
+        self.assertLessEqual(content("tools", "make_evidence.py").count("\n"), 250)
 
 
 class ClosedTest(unittest.TestCase):

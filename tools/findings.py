@@ -1,0 +1,179 @@
+"""What the program says of a case: its reports, read strictly and compared with each other. For report.py."""
+import re
+from argparse import Namespace
+from fractions import Fraction
+
+import check_evidence
+import draw
+import make_evidence
+from reports import NotAReport, read_bounds, read_stages, read_test, read_weights
+
+MOST_SETS, MOST_BOUNDS, MOST_PICTURES = 6, 16, 16  # hypotheses of a table of all sets, of bounds, and of a picture for each step
+
+
+class Refused(Exception):
+    """The program refuses a command: the command, the status, and the line."""
+
+
+class Findings:
+    """A case, and what the program prints of it."""
+
+    def __init__(self, given, run, words=(), labels=None):
+        self.run, self.given = run, given
+        self.canonical = self.ask(["canon", *words], given)
+        self.before, _, self.staging = self.canonical.partition("\nstages ")
+        self.staging = [line.split(" ") for line in self.staging.split("\n")[1:-1]]
+        self.is_staged = "\nstages " in self.canonical
+        self.case = self.read_canonical()
+        self.names, self.alpha = self.case.names, self.case.alpha
+        self.labels = dict(zip(self.names, labels or self.names))
+        self.start = {name: sum(part.share * part.weights[k] for part in self.case.components) for k, name in enumerate(self.names)}
+        self.read_decision()
+        self.states = [*self.all_states()]
+        self.compare_weights()
+        self.weights = self.maybe("weights", read_weights) if len(self.names) <= MOST_SETS else None
+        self.bounds = self.maybe("bounds", read_bounds) if len(self.names) <= MOST_BOUNDS and not self.is_staged else None
+        self.evidence = None if self.is_staged else self.run(["evidence"], self.canonical)[0]
+
+    def ask(self, words, case):
+        """Returns the text that a command prints. `Refused`: the command is refused."""
+        status, text = self.run(words, case)
+        text = text if isinstance(text, str) else text.decode("latin-1")
+        if status:
+            if not re.fullmatch("[^\n]+\n", text):
+                raise NotAReport(f"{words[0]} ended with status {status} and without one line that says why")
+            raise Refused(words[0], status, text.rstrip("\n"))
+        return text
+
+    def maybe(self, command, read):
+        """Returns what a report says, or the refusal."""
+        try:
+            return read(self.ask([command], self.canonical), self.names)
+        except Refused as refused:
+            return refused
+
+    def read_canonical(self):
+        """Returns the case of the canonical text, without its stages. The text must be its own canonical text."""
+        try:
+            case = check_evidence.read_case(self.before.removesuffix("\n") + "\n")
+        except check_evidence.Stop as stop:
+            raise NotAReport(f"the text of canon is not a case: {stop.args[1].strip()}") from None
+        if self.ask(["canon"], self.canonical) != self.canonical:
+            raise NotAReport("the text of canon is not the canonical text of its own case")
+        return case
+
+    def read_decision(self):
+        """Reads the decision, and which names it rejects in which order."""
+        if self.is_staged:
+            self.decision = read_stages(self.ask(["stages"], self.canonical), self.names)
+            self.order = [rejection.name for look in self.decision.looks for rejection in look.rejections]
+        else:
+            self.decision = read_test(self.ask(["test"], self.canonical), self.names)
+            self.order = [step.name for step in self.decision.steps]
+            given = {step.name: step.p for step in [*self.decision.steps, *self.decision.kept]}
+            if [given[name] for name in self.names] != self.case.p:
+                raise NotAReport("the report of test has other p-values than the case")
+        if self.decision.alpha != self.alpha:
+            raise NotAReport("the report has another level than the case")
+        self.steps = {name: n for n, name in enumerate(self.order, 1)}
+
+    def single(self, removed):
+        """Returns the case with p-values that reject the removed hypotheses and no other one."""
+        blocks = [line for line in self.before.removesuffix("\n").split("\n")[2:] if not line.startswith("p ")]
+        p = " ".join("0" if name in removed else "1" for name in self.names)
+        return "\n".join(["alpha 1/2", " ".join(["hypotheses", *self.names]), f"p {p}", *blocks, ""])
+
+    def all_states(self):
+        """Yields the graph before the first rejection and after each; of a graph of many hypotheses the first one alone."""
+        components = make_evidence.Case(self.single([])).components
+        yield self.state([], components)
+        for n, name in enumerate(self.order if len(self.names) <= MOST_PICTURES else [], 1):
+            for part in components:
+                part.remove(self.names.index(name))
+            yield self.state(self.order[:n], components)
+
+    def state(self, removed, components):
+        """Returns the weights that the program prints once some hypotheses are removed, and the graph for a picture. If the program
+        refuses to print these weights, returns its refusal."""
+        try:
+            kept = read_test(self.ask(["test"], self.single(removed)), self.names).kept
+        except Refused as refused:
+            return refused
+        weights = {step.name: step.weight for step in kept}
+        left = [k for k, name in enumerate(self.names) if name not in removed]
+        own = {self.names[k]: sum(part.share * part.weight(k) for part in components) for k in left}
+        if own != weights:
+            raise NotAReport(f"the weights after {len(removed)} rejections are not those that this page computes")
+        parts = [
+            Namespace(
+                share=part.share,
+                weights=[part.weight(k) if k in left else None for k in range(len(self.names))],
+                edges=updated_edges(part, left),
+            )
+            for part in components
+        ]
+        names = [self.labels[name] for name in self.names]
+        return Namespace(weights=weights, removed=removed, case=Namespace(names=names, alpha=self.alpha, p=self.case.p, components=parts))
+
+    def compare_weights(self):
+        """Compares the weights of the case and of the decision with those of the graphs, step by step."""
+        if self.is_staged:
+            wanted = [{it.name: it.weight} for look in self.decision.looks for it in look.rejections]
+        else:
+            last = {step.name: step.weight for step in self.decision.kept}
+            wanted = [*({step.name: step.weight} for step in self.decision.steps), last]
+        for found, known in [(self.states[0], self.start), *zip(self.states, wanted)]:
+            if not isinstance(found, Refused) and any(found.weights[name] != weight for name, weight in known.items()):
+                raise NotAReport("the weights of the decision are not those of the graph")
+
+    def level(self, name, stage, weight):
+        """Returns the level that a hypothesis has at a stage, if it has this weight."""
+        rows = [[Fraction(x) for x in words[2:]] for words in self.staging if words[0] in ("spend", "table") and words[1] == name]
+        if ["spend", name] in [words[:2] for words in self.staging]:
+            return rows[0][stage - 1] * weight * self.alpha
+        return next((row[stage] for row in reversed(rows) if row[0] <= weight), Fraction(0))
+
+    def rejecting(self, weights):
+        """Returns the members by which the local test rejects a set with these weights."""
+        if not self.is_staged:
+            p = dict(zip(self.names, self.case.p))
+            return [name for name, weight in weights.items() if weight > 0 and p[name] <= weight * self.alpha]
+        values = [(look.name, look.p, self.level(look.name, look.stage, weights[look.name]))
+                  for look in self.decision.looks if weights.get(look.name)]
+        return [name for name in weights if any(look == name and 0 < level and p <= level for look, p, level in values)]
+
+    def closed(self, order):
+        """Returns whether the closed test rejects each set; larger sets come first. It must reject what the program says."""
+        rejected = {}
+        for members in order:
+            above = [frozenset([*members, name]) for name in self.names if name not in members]
+            rejected[frozenset(members)] = bool(self.rejecting(self.weights[members])) and all(rejected[it] for it in above)
+        if [name for name in self.names if rejected[frozenset([name])]] != self.decision.rejected:
+            raise NotAReport("the weights of all sets do not lead to the decision")
+        if isinstance(self.bounds, dict) and any((self.bounds[members] > 0) != rejected[frozenset(members)] for members in order):
+            raise NotAReport("the weights of all sets do not lead to the bounds")
+        return rejected
+
+
+def updated_edges(part, left):
+    """Returns the edges among the hypotheses that are left, as polynomials, or as texts if they are other quotients."""
+    arriving, edges = {k: part.exits(k) for k in left}, {}
+    for i in left:
+        row = [part.edges[i][r] for r in part.passing]
+        below = make_evidence.plus(make_evidence.times(part.determinant, [part.scales[i]]), make_evidence.dot(row, arriving[i]), -1)
+        for j in left:
+            above = make_evidence.plus(make_evidence.times(part.edges[i][j], part.determinant), make_evidence.dot(row, arriving[j]))
+            if i != j and above and below:
+                edges[i, j] = edge_label(*make_evidence.lowest_terms(above, below))
+    return edges
+
+
+def edge_label(above, below):
+    """Returns a quotient as draw.py takes it. One that is long is given by its first term."""
+    if len(below) == 1:
+        return [Fraction(x, below[0]) for x in above]
+    text = f"({draw.edge_text([Fraction(x) for x in above])})/({draw.edge_text([Fraction(x) for x in below])})"
+    if len(text) <= 15:
+        return text
+    first, second = (next(i for i, x in enumerate(part) if x) for part in (above, below))
+    return "≈" + draw.edge_text([Fraction(0)] * (first - second) + [Fraction(above[first], below[second])]).removeprefix("≈")

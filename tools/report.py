@@ -1,0 +1,473 @@
+#!/usr/bin/env python3
+"""Writes a decision as one page of HTML, for people who read it rather than compute it.
+
+    tools/report.py CASE [--form text|csv|json] [--alpha N] [--program PATH] > REPORT.html
+
+CASE is a file in a form of docs/FORMATS.md, with single p-values or with stages. The page has no scripts and fetches nothing. What
+it says of the decision is what `welungad` prints, which is read strictly: if a text is not the whole report of its command on this
+case, the script ends with status 1 and a line on standard error, and there is no page. A case that `welungad` refuses has a page
+too, with the cause and the cure of the line; the status is then that of `welungad`.
+
+The program prints weights and no edges. So the edges after a rejection are computed here for the pictures, and each weight that
+they give is compared with the one that the program prints.
+"""
+import argparse
+import hashlib
+import os
+import re
+import shlex
+import shutil
+import subprocess
+import sys
+from fractions import Fraction
+from html import escape
+
+import draw
+from findings import MOST_PICTURES, Findings, Refused
+from refusals import explained
+from reports import NotAReport
+
+HERE = os.path.dirname(os.path.abspath(__file__))
+
+STYLE = """
+:root { color-scheme: light; }
+body { font: 1rem/1.5 "DejaVu Sans", Verdana, Helvetica, sans-serif; color: #111; background: #fff; margin: 0 auto; padding: 1rem;
+  max-width: 62rem; }
+h1 { font-size: 1.6rem; line-height: 1.25; }
+h2 { font-size: 1.25rem; margin-top: 2.5rem; border-bottom: 1px solid #999; }
+h3 { font-size: 1.05rem; }
+p, li, dd { max-width: 44rem; }
+.answer { font-size: 1.15rem; border-left: .4rem solid #2e6b34; padding: .3rem .8rem; }
+.answer.refused { border-color: #a3324b; }
+.wide { overflow-x: auto; margin: 1rem 0; }
+table { border-collapse: collapse; font-size: .9rem; }
+caption { text-align: left; font-weight: bold; padding: .3rem 0; }
+th, td { border: 1px solid #999; padding: .25rem .5rem; text-align: left; vertical-align: top; }
+thead th { background: #eef1f4; vertical-align: bottom; }
+tbody th { background: #fff; position: sticky; left: 0; }
+tr.rejected > th { background: #cfe3cf; }
+.decimal { color: #444; white-space: nowrap; }
+code, pre { font-family: "DejaVu Sans Mono", Menlo, Consolas, monospace; font-size: .85rem; }
+pre { background: #f4f6f8; border: 1px solid #ccc; padding: .6rem; white-space: pre-wrap; overflow-wrap: anywhere; }
+code { overflow-wrap: anywhere; }
+.pictures { display: grid; grid-template-columns: repeat(auto-fit, minmax(min(100%, 24rem), 1fr)); gap: 1rem; padding: 0;
+  list-style: none; }
+figure { margin: 0; border: 1px solid #ccc; padding: .5rem; }
+figure svg { max-width: 100%; height: auto; display: block; margin: 0 auto; }
+figcaption { font-weight: bold; }
+dt { font-weight: bold; }
+dd { margin: 0 0 .6rem 0; }
+footer { border-top: 1px solid #999; margin-top: 2.5rem; font-size: .9rem; }
+@media print {
+  @page { margin: 15mm; }
+  body { font-size: 9.5pt; max-width: none; padding: 0; }
+  .wide { overflow: visible; }
+  tbody th { position: static; }
+  table { font-size: 8pt; }
+  thead { display: table-header-group; }
+  tr, figure, .answer { break-inside: avoid; }
+  h1, h2, h3, caption { break-after: avoid; }
+  .pictures { grid-template-columns: 1fr 1fr; }
+  pre { background: #fff; }
+}
+"""
+
+
+# ---- numbers and markup
+
+
+def decimal_text(x):
+    """A fraction as a decimal: exactly with at most eight places, else to five digits."""
+    if 10**8 % x.denominator == 0:
+        whole, part = divmod(abs(x.numerator) * (10**8 // x.denominator), 10**8)
+        return f"= {whole}.{part:08d}".rstrip("0")
+    return f"≈ {float(x):.5g}"
+
+
+def number(x):
+    """A fraction, and the same as a decimal."""
+    return str(x) if x.denominator == 1 else f'{x} <span class="decimal">{decimal_text(x)}</span>'
+
+
+def table(name, caption, head, rows):
+    """A table in a frame that scrolls if the page is narrow. Each row is its class, its header and its cells."""
+    columns = "".join(f'<th scope="col">{cell}</th>' for cell in head)
+    lines = [
+        f'<div class="wide" role="region" aria-labelledby="{name}" tabindex="0">',
+        f'<table>\n<caption id="{name}">{caption}</caption>',
+        f"<thead><tr>{columns}</tr></thead>\n<tbody>",
+    ]
+    for kind, first, *cells in rows:
+        start = f'<tr class="{kind}">' if kind else "<tr>"
+        lines.append(f'{start}<th scope="row">{first}</th>' + "".join(f"<td>{cell}</td>" for cell in cells) + "</tr>")
+    return "\n".join([*lines, "</tbody>\n</table>\n</div>"])
+
+
+def listed(labels):
+    """Names in a sentence."""
+    return ", ".join(labels[:-1]) + (" and " if labels[1:] else "") + "".join(labels[-1:])
+
+
+def code(text):
+    """A sentence of a page in Markdown: escaped, with its code and without its links."""
+    return re.sub("`([^`]*)`", r"<code>\1</code>", escape(re.sub(r"\[([^\]]*)\]\([^)]*\)", r"\1", text)))
+
+
+# ---- the sections
+
+
+def label_of(findings, name):
+    """The user's label of a hypothesis, with its name in the case if the two differ."""
+    label = findings.labels[name]
+    return escape(label) if label == name else f"{escape(label)} <small>({escape(name)})</small>"
+
+
+def labels_of(findings, names):
+    return listed([label_of(findings, name) for name in names])
+
+
+def answer(findings):
+    kept = [name for name in findings.names if name not in findings.steps]
+    said = f"{labels_of(findings, findings.decision.rejected)}" if findings.order else "no hypothesis"
+    words = [f"At the level {number(findings.alpha)}, the test rejects <strong>{said}</strong>."]
+    if kept and findings.order:
+        words.append(f"It does not reject {labels_of(findings, kept)}.")
+    return f'<p class="answer">{" ".join(words)}</p>'
+
+
+def how_to_read(findings):
+    words = [
+        "Each hypothesis has a weight, which is its part of the level.",
+        "It is rejected if one of its p-values is at most what it spends of its weight times the level at the stage of the p-value."
+        if findings.is_staged else "It is rejected if its p-value is at most its weight times the level.",
+        "Its weight then passes to the other hypotheses along the arrows of the graph, and the test continues with the larger weights.",
+        "Which hypotheses are rejected does not depend on the order of the rejections.",
+    ]
+    if len(findings.case.components) > 1:
+        words.append("Several graphs are combined: a weight in a table is the sum over the graphs of share times weight.")
+    if not findings.case.is_plain:
+        words.append("A weight with an infinitely small part, ε, is given without it.")
+    return f"<p>{' '.join(words)}</p>"
+
+
+def decision_table(findings):
+    """The table of a case with single p-values."""
+    start, decision = findings.start, findings.decision
+    tested = {step.name: step for step in [*decision.steps, *decision.kept]}
+    rows = []
+    for name in findings.names:
+        step, value = findings.steps.get(name), decision.adjusted[name]
+        rows.append([
+            "rejected" if step else "",
+            label_of(findings, name),
+            f"rejected, step {step}" if step else "not rejected",
+            number(tested[name].p),
+            number(tested[name].weight * findings.alpha),
+            number(tested[name].weight),
+            number(value.value) if value.is_reached else "above 1",
+            number(start[name]),
+            number(start[name] * findings.alpha),
+        ])
+    head = ["Hypothesis", "Decision", "p-value", "Level when tested", "Weight when tested", "Adjusted p-value", "Weight at the start",
+            "Level at the start"]
+    return "\n".join([
+        table("decision", "The decision on each hypothesis", head, rows),
+        "<p>A level is a weight times the level of the trial. A rejected hypothesis is tested at the weight that it has just before its "
+        "rejection, another one at the weight that it has at the end. The adjusted p-value is the least level of the trial at which "
+        "the hypothesis is rejected; it is above 1 if no level up to 1 rejects it.</p>",
+    ])
+
+
+def staged_table(findings):
+    """The table of a case with stages: each hypothesis, and the look that led to its rejection."""
+    values = {(look.name, look.stage): look.p for look in findings.decision.looks}
+    found = {it.name: (n, it) for n, look in enumerate(findings.decision.looks, 1) for it in look.rejections}
+    rows = []
+    for name in findings.names:
+        start = number(findings.start[name])
+        if name not in found:
+            rows.append(["", label_of(findings, name), "not rejected", "–", "–", "–", "–", start])
+            continue
+        n, it = found[name]
+        p, level = values.get((name, it.stage)), findings.level(name, it.stage, it.weight)
+        if p is None or p > level:
+            raise NotAReport(f"the report of stages rejects {name} at stage {it.stage}, whose p-value is not at most its level")
+        decision = f"rejected, step {findings.steps[name]}, after look {n}"
+        rows.append(["rejected", label_of(findings, name), decision, str(it.stage), number(p), number(level), number(it.weight), start])
+    head = ["Hypothesis", "Decision", "Stage", "p-value of the stage", "Level of the stage", "Weight when rejected", "Weight at the start"]
+    return "\n".join([
+        table("decision", "The decision on each hypothesis", head, rows),
+        "<p>A hypothesis is rejected as soon as the p-value of one of its stages is at most what the hypothesis has for this stage at its "
+        "weight of that moment. The stage is the first one of which that is so.</p>",
+    ])
+
+
+def looks(findings):
+    """The looks, and what each hypothesis spends."""
+    rows = []
+    for n, look in enumerate(findings.decision.looks, 1):
+        rejections = [f"{label_of(findings, it.name)} (by stage {it.stage})" for it in look.rejections]
+        rows.append(["rejected" if rejections else "", str(n), label_of(findings, look.name), str(look.stage), number(look.p), listed(rejections) or "none"])
+    spent = []
+    for words in findings.staging:
+        if words[0] in ("spend", "table"):
+            first, numbers = ("", words[2:]) if words[0] == "spend" else (f", from the weight {number(Fraction(words[2]))} on", words[3:])
+            unit = "fractions of its level" if words[0] == "spend" else "levels"
+            spent.append(["", label_of(findings, words[1]) + first, unit, *(number(Fraction(x)) for x in numbers)])
+    stages = [f"Stage {n}" for n in range(1, max(len(row) for row in spent) - 2)]
+    return "\n".join([
+        "<h2>The looks at the stages</h2>",
+        table("looks", "The p-values in the order in which they arrived, and what was rejected then", ["Look", "Hypothesis", "Stage", "p-value", "Rejected"], rows)
+        if rows else "<p>No p-value has arrived.</p>",
+        table("spends", "What each hypothesis spends at each stage", ["Hypothesis", "Unit", *stages], spent),
+    ])
+
+
+def described(findings, state):
+    """What a picture shows, in words."""
+    sentences = []
+    for i, name in enumerate(findings.names):
+        if name in state.removed:
+            continue
+        sentences.append(f"{findings.labels[name]} has the weight {state.weights[name]}")
+        for c, part in enumerate(state.case.components, 1):
+            passed = [f"{draw.edge_text(edge)} to {state.case.names[j]}" for (k, j), edge in part.edges.items() if k == i]
+            if passed and len(findings.names) <= 8:
+                place = f" in component {c}" if state.case.components[1:] else ""
+                sentences[-1] += f" and passes{place} {listed(passed)}"
+        sentences[-1] += "."
+    gone = listed([findings.labels[name] for name in state.removed])
+    return " ".join([*([f"Rejected: {gone}."] if gone else []), *sentences]) or "No hypothesis is left."
+
+
+def pictures(findings):
+    """The graph before the first rejection and after each."""
+    centre = draw.centres(findings.case, draw.edges_of(findings.case))
+    items = []
+    for n, state in enumerate(findings.states):
+        after = f"After step {n}: {findings.labels[findings.order[n - 1]]} is rejected" if n else "Before the first rejection"
+        title = after + (", the end" if n == len(findings.order) else "")
+        if isinstance(state, Refused):
+            items.append(f"<li><p>{escape(title)}: there is no picture, since the program prints no weights for it.</p>{refusal_list(state)}</li>")
+            continue
+        numbers = {findings.labels[name]: str(findings.steps[name]) for name in state.removed}
+        drawn = draw.picture(state.case, numbers, centre, f"graph{n}-", title, described(findings, state))
+        items.append(f"<li><figure>\n<figcaption>{escape(title)}</figcaption>\n{drawn}</figure></li>")
+    words = "" if len(findings.names) <= MOST_PICTURES else f"<p>Graphs of more than {MOST_PICTURES} hypotheses are drawn once.</p>"
+    return "\n".join([
+        "<h2>The graph, step by step</h2>",
+        "<p>A circle has the name of a hypothesis and its weight. An arrow has the part of the weight that it passes on if its hypothesis "
+        "is rejected. The weights are those that the program prints; it prints no edges, so the edges after a rejection are computed "
+        f"for the pictures, and the weights that they give were compared with the program's.</p>{words}",
+        '<ol class="pictures">', *items, "</ol>",
+    ])
+
+
+def all_sets(findings):
+    """The table of all intersections."""
+    head = "<h2>All intersections</h2>"
+    if isinstance(findings.weights, Refused):
+        return head + refusal_list(findings.weights)
+    order = sorted(findings.weights, key=lambda members: (-len(members), [findings.names.index(name) for name in members]))
+    rejected = findings.closed(order)
+    rows = []
+    for members in order:
+        weights, by, verdict = findings.weights[members], findings.rejecting(findings.weights[members]), rejected[frozenset(members)]
+        cells = [f'<strong>{weights[name]}</strong>' if name in by else str(weights.get(name, "–")) for name in findings.names]
+        last = [str(findings.bounds[members])] if isinstance(findings.bounds, dict) else []
+        rows.append(["rejected" if verdict else "", ", ".join(label_of(findings, name) for name in members), *cells,
+                     "yes" if by else "no", "yes" if verdict else "no", *last])
+    heads = ["Intersection of", *(f"Weight of {label_of(findings, name)}" for name in findings.names), "Local test rejects",
+             "Closed test rejects", *(["False hypotheses, at least"] if isinstance(findings.bounds, dict) else [])]
+    return "\n".join([
+        head,
+        "<p>The local test rejects an intersection if "
+        + ("a p-value of a member is at most what the member spends, at its weight there, at the stage of the p-value" if findings.is_staged
+           else "the p-value of a member is at most its weight there times the level")
+        + ". The weights that reject are in bold. The closed test rejects an intersection if the local test rejects it and every intersection of more hypotheses that "
+        "contains it. It rejects a hypothesis if it rejects the set of it alone.</p>",
+        table("sets", "All intersections with their weights and verdicts", heads, rows),
+    ])
+
+
+def bounds(findings):
+    """The bounds of the sets of the least p-values."""
+    head = "<h2>How many hypotheses are false</h2>"
+    if isinstance(findings.bounds, Refused):
+        return head + refusal_list(findings.bounds)
+    p = dict(zip(findings.names, findings.case.p))
+    ranked = sorted(findings.names, key=lambda name: (p[name], findings.names.index(name)))
+    rows = []
+    for count in range(1, len(ranked) + 1):
+        members = (*(name for name in findings.names if name in ranked[:count]),)
+        rows.append(["", str(count), labels_of(findings, members), str(findings.bounds[members])])
+    return "\n".join([
+        head,
+        "<p>Each bound is a number of false hypotheses in a set. All bounds hold at once with a probability of at least 1 less the level, "
+        "however the set is chosen.</p>",
+        table("bounds", "Lower bounds on the number of false hypotheses among those with the least p-values",
+              ["How many", "Hypotheses", "False hypotheses, at least"], rows),
+    ])
+
+
+def refusal_list(refused):
+    """A refusal, its cause and its cure."""
+    cause, cure = explained(refused.args[2], refused.args[0]) or ("The page docs/REFUSALS.md is not at hand.", "")
+    items = [("The line", f"<code>{escape(refused.args[2])}</code> (status {refused.args[1]} of <code>{escape(refused.args[0])}</code>)"),
+             ("Cause", code(cause)), ("What to do", code(cure) or "Correct what the line names.")]
+    return "\n".join(["<dl>", *(f"<dt>{name}</dt><dd>{what}</dd>" for name, what in items), "</dl>"])
+
+
+def given_text(given, line=None):
+    """The user's text, escaped; with the number of a line, that line is marked."""
+    lines = given.encode("utf-8", "surrogateescape").decode("utf-8", "replace").removesuffix("\n").split("\n")
+    marked = [f"<mark>{escape(it)}</mark>" if n == line else escape(it) for n, it in enumerate(lines, 1)]
+    return "<pre>" + "\n".join(marked) + "</pre>"
+
+
+def digest(text):
+    return hashlib.sha256(text.encode()).hexdigest()
+
+
+def commands(findings, file, words):
+    """The command lines that repeat the decision and check it."""
+    source, test = shlex.quote(file), "stages" if findings.is_staged else "test"
+    options = "".join(" " + shlex.quote(word) for word in words)
+    repeat = [f"welungad canon{options} < {source} > case.txt", "sha256sum case.txt", f"welungad {test} < case.txt > report.txt"]
+    parts = ["<h3>To repeat it</h3>", "<pre>" + escape("\n".join(repeat)) + "</pre>"]
+    if findings.is_staged:
+        return parts + ["<p>There is no evidence for a staged trial: the same program decides again.</p>"]
+    made = ["welungad evidence < case.txt > evidence.txt", "welungad check evidence.txt < case.txt"]
+    if findings.evidence:
+        parts.append(f"<p>The program's own evidence ends with status {findings.evidence} here. So the script below makes it, and "
+                     "another one checks it, both without the proved program.</p>")
+        made = ["python3 tools/make_evidence.py case.txt report.txt > evidence.txt"]
+    made.append("python3 tools/check_evidence.py case.txt evidence.txt")
+    made += ["python3 tools/closed_test.py case.txt --sets"] if len(findings.names) <= 12 else []
+    return [*parts, "<h3>To check it</h3>", "<pre>" + escape("\n".join(made)) + "</pre>",
+            "<p>The scripts share no code with the program. The first one checks the evidence"
+            + (", and the second one decides by the definition, over all intersections.</p>" if len(findings.names) <= 12 else ".</p>")]
+
+
+def program_list(program):
+    items = "".join(f"<dt>{escape(name)}</dt><dd><code>{escape(text)}</code></dd>" for name, text in program)
+    return f"<dl>{items}</dl>" if items else "<p>Which program answered was not stated.</p>"
+
+
+FOOTER = """<footer>
+<p>This page does not show that the p-values are valid, that the graph was fixed before the data were seen, or that the case is the
+one of the protocol.</p>
+</footer>"""
+
+
+def whole(title, parts):
+    return "\n".join([
+        "<!DOCTYPE html>", '<html lang="en">', "<head>", '<meta charset="utf-8">',
+        '<meta name="viewport" content="width=device-width, initial-scale=1">',
+        f"<title>{escape(title)}</title>", f"<style>{STYLE}</style>", "</head>", "<body>", "<main>", *parts, "</main>", FOOTER,
+        "</body>", "</html>", "",
+    ])
+
+
+def refusal_page(refused, given, file, words, program):
+    """The page about a case that the program refuses."""
+    title = f"No decision: {file} is refused"
+    found = re.match(r"(?:malformed|limit): (?:line|row) (\d+)", refused.args[2])
+    line = int(found[1]) if found and "line" in found[0] else None
+    options = "".join(" " + shlex.quote(word) for word in words)
+    return whole(title, [
+        f"<h1>{escape(title)}</h1>",
+        '<p class="answer refused">The program decides nothing on this case, because it refuses it.</p>',
+        "<h2>Why, and what to do</h2>", refusal_list(refused),
+        "<h2>The case as it was given</h2>", given_text(given, line),
+        "<h2>The program</h2>", program_list(program),
+        "<h3>To repeat it</h3>", f"<pre>{escape(f'welungad {refused.args[0]}{options} < {shlex.quote(file)}')}</pre>",
+    ])
+
+
+def decision_page(findings, file, words, program):
+    """The page about a decision."""
+    title = f"The decision on {file}"
+    report = findings.ask(["stages" if findings.is_staged else "test"], findings.canonical)
+    parts = [f"<h1>{escape(title)}</h1>", answer(findings), how_to_read(findings), "<h2>The decision</h2>"]
+    parts.append(staged_table(findings) if findings.is_staged else decision_table(findings))
+    parts.append(pictures(findings))
+    parts += [looks(findings)] if findings.is_staged else []
+    parts += [all_sets(findings)] if findings.weights else []
+    parts += [bounds(findings)] if findings.bounds else []
+    parts += ["<h2>The case as it was given</h2>", given_text(findings.given)]
+    parts += ["<h2>The case in its one spelling</h2>", f"<pre>{escape(findings.canonical)}</pre>"]
+    parts.append(f"<p>Its SHA-256 digest is <code>{digest(findings.canonical)}</code>.</p>")
+    parts += ["<h2>What the program printed</h2>", f"<pre>{escape(report)}</pre>"]
+    parts += ["<h2>The program, and how to repeat and check the decision</h2>", program_list(program), *commands(findings, file, words)]
+    return whole(title, parts)
+
+
+def document(case_text, run, form="text", alpha=None, file="trial.txt", labels=None, program=()):
+    """The status of the program, and the page about its decision or its refusal. See `page`."""
+    given = case_text if isinstance(case_text, str) else case_text.decode("utf-8", "surrogateescape")
+    words = [*(["--form", form] if form != "text" else []), *(["--alpha", alpha] if alpha is not None else [])]
+    try:
+        return 0, decision_page(Findings(given, run, words, labels), file, words, program)
+    except Refused as refused:
+        return refused.args[1], refusal_page(refused, given, file, words if refused.args[0] == "canon" else [], program)
+
+
+def page(case_text, run, **how):
+    """Returns the page about the decision on a case, as HTML.
+
+    `run(words, case)` runs a command of the program and returns its status and its text. `form` and `alpha` say how the case is
+    written, `file` what it is called, `labels` has the user's name of each hypothesis, and `program` pairs of texts about the
+    program. `NotAReport`: a text is not the report of its command on this case.
+    """
+    return document(case_text, run, **how)[1]
+
+
+# ---- the script
+
+
+def found_program():
+    """Returns the path of the program: that of this installation or of this checkout, else the one on the path."""
+    places = [os.path.join(HERE, *"../../../bin/welungad".split("/")), os.path.join(HERE, *"../crates/welungad/out/welungad".split("/"))]
+    return next((place for place in places if os.access(place, os.X_OK)), shutil.which("welungad"))
+
+
+def about(program):
+    """Returns the digest of the program, and what the file beside it says of its making."""
+    with open(program, "rb") as file:
+        found = [("SHA-256 digest of the program", hashlib.sha256(file.read()).hexdigest())]
+    for name in ("../share/welungad/identity", "stamp"):
+        path = os.path.join(os.path.dirname(program), name)
+        if os.path.isfile(path):
+            with open(path, encoding="utf-8") as file:
+                found.append(("What it was built from", file.read().strip()))
+    return found
+
+
+def main():
+    parser = argparse.ArgumentParser(description=__doc__, formatter_class=argparse.RawDescriptionHelpFormatter)
+    parser.add_argument("case")
+    parser.add_argument("--form", choices=["text", "csv", "json"], default="text")
+    parser.add_argument("--alpha")
+    parser.add_argument("--program")
+    words = parser.parse_args()
+
+    def run(command, case):
+        done = subprocess.run([program, *command], input=case.encode("utf-8", "surrogateescape"), stdout=subprocess.PIPE, check=False)
+        return done.returncode, done.stdout
+
+    try:
+        program = words.program or found_program()
+        if program is None:
+            raise OSError("there is no program: name it by --program")
+        with open(words.case, "rb") as file:
+            given = file.read()
+        status, text = document(given, run, words.form, words.alpha, os.path.basename(words.case), program=about(program))
+    except (OSError, NotAReport) as error:
+        sys.exit(f"report.py: {error}")
+    sys.stdout.buffer.write(text.encode("utf-8"))
+    sys.exit(status)
+
+
+if __name__ == "__main__":
+    main()
