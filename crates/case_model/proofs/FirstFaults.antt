@@ -3,7 +3,7 @@ use Rattle.std.proofs.Common.{◌≡◌, refl, sym, ap, ap₂, ◌∙◌, ℕ, z
 use Rattle.std.proofs.Common.{◌≤◌, slice_get, drop, drop-cons, Option, Some, None, is_some, true, false, arith}
 use mathlib.Core.Path.{fun_ext}
 use Rattle.std.proofs.lemmas.List.{drop_all}
-use Rattle.std.proofs.lemmas.Option.{slice_get_read, slice_get-get_or}
+use Rattle.std.proofs.lemmas.Option.{slice_get_read}
 use Rattle.std.specs.Option.{option_and_then}
 use Rattle.case_model.specs.declared.fault.CaseFault.{CaseFault}
 use Rattle.case_model.specs.CaseFaults.{◌or◌, first_from, first_of, first_below}
@@ -66,11 +66,6 @@ pub found_at-item : {A : Type 0} (row : ℕ → A → Option CaseFault) (xs : Li
     → found_at row xs i ≡ row i x
 unfolding found_at
 found_at-item row xs i x h e = ap (option_and_then (row i)) (slice_get_read xs (length xs) i x refl h e)
-
-pub found_at-get : {A : Type 0} (row : ℕ → A → Option CaseFault) (xs : List A) (i : ℕ) (d : A) → i < length xs
-    → found_at row xs i ≡ row i (get_or xs i d)
-unfolding found_at
-found_at-get row xs i d h = ap (option_and_then (row i)) (slice_get-get_or xs i d h)
 
 first_from-below : {A : Type 0} (row : ℕ → A → Option CaseFault) (i : ℕ) (xs : List A)
     → first_from row i xs ≡ first_below (λ n. option_and_then (row (i + n)) (slice_get xs n)) (length xs)
