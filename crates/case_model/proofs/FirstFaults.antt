@@ -1,8 +1,9 @@
 -- The first fault that a test finds, as a loop comes to it.
 use Rattle.std.proofs.Common.{◌≡◌, refl, sym, ap, ap₂, ◌∙◌, ℕ, zero, suc, ◌+◌, ◌-◌, ◌<◌, List, [], ◌∷◌, length, get_or}
-use Rattle.std.proofs.Common.{slice_get, Option, Some, None, is_some, true, false, arith}
+use Rattle.std.proofs.Common.{◌≤◌, slice_get, drop, drop-cons, Option, Some, None, is_some, true, false, arith}
 use mathlib.Core.Path.{fun_ext}
-use Rattle.std.proofs.lemmas.Option.{slice_get_read, slice_get-get_or}
+use Rattle.std.proofs.lemmas.List.{drop_all}
+use Rattle.std.proofs.lemmas.Option.{slice_get_read}
 use Rattle.std.specs.Option.{option_and_then}
 use Rattle.case_model.specs.declared.fault.CaseFault.{CaseFault}
 use Rattle.case_model.specs.CaseFaults.{◌or◌, first_from, first_of, first_below}
@@ -66,11 +67,6 @@ pub found_at-item : {A : Type 0} (row : ℕ → A → Option CaseFault) (xs : Li
 unfolding found_at
 found_at-item row xs i x h e = ap (option_and_then (row i)) (slice_get_read xs (length xs) i x refl h e)
 
-pub found_at-get : {A : Type 0} (row : ℕ → A → Option CaseFault) (xs : List A) (i : ℕ) (d : A) → i < length xs
-    → found_at row xs i ≡ row i (get_or xs i d)
-unfolding found_at
-found_at-get row xs i d h = ap (option_and_then (row i)) (slice_get-get_or xs i d h)
-
 first_from-below : {A : Type 0} (row : ℕ → A → Option CaseFault) (i : ℕ) (xs : List A)
     → first_from row i xs ≡ first_below (λ n. option_and_then (row (i + n)) (slice_get xs n)) (length xs)
 unfolding first_from
@@ -88,3 +84,21 @@ unfolding found_at
 first_of-below row xs =
     let same : (n : ℕ) → 0 + n ≡ n = λ n. omega arith in
     first_from-below row 0 xs ∙ ap (λ f. first_below f (length xs)) (fun_ext (λ n. ap (λ k. option_and_then (row k) (slice_get xs n)) (same n)))
+
+-- ---- lists, from a place on
+
+-- what is found from a place on is what is found there, or else from the next place on
+pub walk_more : {A : Type 0} (row : ℕ → A → Option CaseFault) (xs : List A) (i : ℕ) (d : A) → i < length xs
+    → first_from row i (drop i xs) ≡ (row i (get_or xs i d) or first_from row (i + 1) (drop (i + 1) xs))
+unfolding first_from
+walk_more row xs i d h =
+    let next : suc i ≡ i + 1 = omega arith in
+    ap (first_from row i) (drop-cons xs i d h) ∙ ap (λ n. row i (get_or xs i d) or first_from row (i + 1) (drop n xs)) next
+
+-- past the end nothing is found
+pub walk_end : {A : Type 0} (row : ℕ → A → Option CaseFault) (xs : List A) (i : ℕ) → length xs ≤ i → first_from row i (drop i xs) ≡ None
+unfolding first_from
+walk_end row xs i h = ap (first_from row i) (drop_all i xs h)
+
+-- both
+pub ruleset walks = (walk_more, walk_end)

@@ -157,7 +157,7 @@ impl Case {
     pub fn is_plain(&self) -> bool
         ensures { result ≡ is_plain (content self.now) }
     {
-        self.components.iter().all(|component| component.is_plain())
+        self.components.iter().all(Component::is_plain)
     }
 
     /// Returns the position of the hypothesis of this name; `None` if no hypothesis has it.

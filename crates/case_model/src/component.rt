@@ -71,7 +71,7 @@ impl Component {
     pub(crate) fn is_plain(&self) -> bool
         ensures { result ≡ list_all is_plain_entry self.now.edges }
     {
-        self.edges.iter().all(|entry| entry.is_plain())
+        self.edges.iter().all(Entry::is_plain)
     }
 }
 

@@ -20,7 +20,7 @@ ghost use Rattle.case_model.specs.CaseFaults.{
   edges_fault,
 };
 
-use crate::first_faults::{first_below, first_fault};
+use crate::first_faults::first_fault;
 use crate::fraction_tests::{is_below_zero, is_short};
 use crate::sums::total_fault;
 use crate::{CaseFault, DraftComponent, PartPlace};
@@ -32,20 +32,23 @@ pub fn components_fault(components: &[DraftComponent]) -> Option<CaseFault>
     ensures { result ≡ components_fault components.now }
 {
     let count = components.len() as u64;
-    components
-        .is_empty()
-        .then_some(CaseFault::NoComponent)
-        .or_else(|| (count > 8).then_some(CaseFault::TooManyComponents(count)))
+    if count == 0 {
+        return Some(CaseFault::NoComponent);
+    }
+    (count > 8).then_some(CaseFault::TooManyComponents(count))
 }
 
 /// Returns the first share with a part above 10^18.
-#[tactic(auto, unfolding(crate::specs::CaseFaults::long_share))]
+#[tactic(auto, unfolding(crate::specs::CaseFaults::long_share, crate::specs::CaseFaults::first_from), using(crate::proofs::FirstFaults::walks))]
 fn long_share(components: &[DraftComponent]) -> Option<CaseFault>
     ensures { result ≡ long_share components.now }
 {
-    first_fault(components, |component, c| {
-        (!is_short(&component.share)).then_some(CaseFault::PartTooLong(PartPlace::Share(c)))
-    })
+    for c in 0..components.len() {
+        if !is_short(&components[c].share) {
+            return Some(CaseFault::PartTooLong(PartPlace::Share(c)));
+        }
+    }
+    None
 }
 
 /// Returns the first share, or else the first weight, or else the first edge, with a part above 10^18.
@@ -58,13 +61,16 @@ pub fn long_part(components: &[DraftComponent]) -> Option<CaseFault>
 }
 
 /// Returns the first share below 0.
-#[tactic(auto, unfolding(crate::specs::CaseFaults::share_range))]
+#[tactic(auto, unfolding(crate::specs::CaseFaults::share_range, crate::specs::CaseFaults::first_from), using(crate::proofs::FirstFaults::walks))]
 fn share_range(components: &[DraftComponent]) -> Option<CaseFault>
     ensures { result ≡ share_range components.now }
 {
-    first_fault(components, |component, c| {
-        is_below_zero(&component.share).then_some(CaseFault::ShareRange(c))
-    })
+    for c in 0..components.len() {
+        if is_below_zero(&components[c].share) {
+            return Some(CaseFault::ShareRange(c));
+        }
+    }
+    None
 }
 
 /// Returns the fault of the sum of the shares.
@@ -91,13 +97,16 @@ pub fn shares_fault(components: &[DraftComponent]) -> Option<CaseFault>
 }
 
 /// Returns the first component that hasn't this number of weights.
-#[tactic(auto, unfolding(crate::specs::CaseFaults::weight_count))]
+#[tactic(auto, unfolding(crate::specs::CaseFaults::weight_count, crate::specs::CaseFaults::first_from), using(crate::proofs::FirstFaults::walks))]
 fn weight_count(count: usize, components: &[DraftComponent]) -> Option<CaseFault>
     ensures { result ≡ weight_count count components.now }
 {
-    first_fault(components, |component, c| {
-        (component.weights.len() != count).then_some(CaseFault::WeightCount(c))
-    })
+    for c in 0..components.len() {
+        if components[c].weights.len() != count {
+            return Some(CaseFault::WeightCount(c));
+        }
+    }
+    None
 }
 
 /// Returns the first fault of the weights of a number of hypotheses.
@@ -128,12 +137,19 @@ fn repeated_edge(count: usize, components: &[DraftComponent], c: usize) -> Optio
 }
 
 /// Returns the first edge of a component with the ends of an earlier one.
+#[tactic(auto, unfolding(crate::specs::CaseFaults::first_from), using(crate::proofs::FirstFaults::walks))]
 fn repeated_edges(count: usize, components: &[DraftComponent]) -> Option<CaseFault>
     requires few { count ≤ 64 }
     requires ends { list_all (λ k. list_all (goes_between count) k.edges) components.now ≡ true }
     ensures { result ≡ first_of repeated_edge components.now }
 {
-    first_below(components.len(), |c| repeated_edge(count, components, c))
+    for c in 0..components.len() {
+        let fault = repeated_edge(count, components, c);
+        if fault.is_some() {
+            return fault;
+        }
+    }
+    None
 }
 
 /// Returns the first fault of the edges between this number of hypotheses, one by one.

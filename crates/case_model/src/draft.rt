@@ -123,9 +123,10 @@ impl Draft {
     fn part_too_long(&self) -> Option<CaseFault>
         ensures { result ≡ part_too_long self.now }
     {
-        (!is_short_level(&self.alpha))
-            .then_some(CaseFault::PartTooLong(PartPlace::Alpha))
-            .or_else(|| long_part(self.components.as_slice()))
+        if !is_short_level(&self.alpha) {
+            return Some(CaseFault::PartTooLong(PartPlace::Alpha));
+        }
+        long_part(self.components.as_slice())
             .or_else(|| long_p_value(self.p.as_slice()))
             .or_else(|| long_stage_part(&self.stages))
     }

@@ -4,7 +4,6 @@ ghost use Rattle.std.specs.List.{list_all};
 ghost use Rattle.case_model.specs.Draft.{goes_between};
 ghost use Rattle.case_model.specs.CaseFaults.{long_weight, long_edge, weight_range, weight_sum, self_edge, repeated_edge, edge_range};
 
-use crate::first_faults::first_fault;
 use crate::fraction_tests::{is_below_zero, is_short};
 use crate::sums::total_fault;
 use crate::{CaseFault, DraftEdge, PartPlace};
@@ -28,34 +27,47 @@ impl DraftComponent {
     }
 
     /// Returns the first weight with a part above 10^18.
-    #[tactic(auto, unfolding(crate::specs::CaseFaults::long_weight))]
+    #[tactic(auto, unfolding(crate::specs::CaseFaults::long_weight, crate::specs::CaseFaults::first_from), using(crate::proofs::FirstFaults::walks))]
     pub(crate) fn long_weight(&self, c: usize) -> Option<CaseFault>
         ensures { result ≡ long_weight c self.now }
     {
-        first_fault(self.weights.as_slice(), |weight, i| {
-            (!is_short(weight)).then_some(CaseFault::PartTooLong(PartPlace::Weight(c, i)))
-        })
+        let weights = self.weights.as_slice();
+        for i in 0..weights.len() {
+            if !is_short(&weights[i]) {
+                return Some(CaseFault::PartTooLong(PartPlace::Weight(c, i)));
+            }
+        }
+        None
     }
 
     /// Returns the first edge with a part above 10^18.
-    #[tactic(auto, unfolding(crate::specs::CaseFaults::long_edge))]
+    #[tactic(auto, unfolding(crate::specs::CaseFaults::long_edge, crate::specs::CaseFaults::first_from), using(crate::proofs::FirstFaults::walks))]
     pub(crate) fn long_edge(&self, c: usize) -> Option<CaseFault>
         ensures { result ≡ long_edge c self.now }
     {
-        first_fault(self.edges.as_slice(), |edge, _| {
-            let place = PartPlace::Edge(c, edge.from, edge.to);
-            (!edge.entry.is_short()).then_some(CaseFault::PartTooLong(place))
-        })
+        let edges = self.edges.as_slice();
+        for n in 0..edges.len() {
+            let edge = &edges[n];
+            if !edge.entry.is_short() {
+                let place = PartPlace::Edge(c, edge.from, edge.to);
+                return Some(CaseFault::PartTooLong(place));
+            }
+        }
+        None
     }
 
     /// Returns the first weight below 0.
-    #[tactic(auto, unfolding(crate::specs::CaseFaults::weight_range))]
+    #[tactic(auto, unfolding(crate::specs::CaseFaults::weight_range, crate::specs::CaseFaults::first_from), using(crate::proofs::FirstFaults::walks))]
     pub(crate) fn weight_range(&self, c: usize) -> Option<CaseFault>
         ensures { result ≡ weight_range c self.now }
     {
-        first_fault(self.weights.as_slice(), |weight, i| {
-            is_below_zero(weight).then_some(CaseFault::WeightRange(c, i))
-        })
+        let weights = self.weights.as_slice();
+        for i in 0..weights.len() {
+            if is_below_zero(&weights[i]) {
+                return Some(CaseFault::WeightRange(c, i));
+            }
+        }
+        None
     }
 
     /// Returns the fault of the sum of the weights.
@@ -69,14 +81,18 @@ impl DraftComponent {
     }
 
     /// Returns the first edge from a hypothesis to itself that isn't 0.
-    #[tactic(auto, unfolding(crate::specs::CaseFaults::self_edge))]
+    #[tactic(auto, unfolding(crate::specs::CaseFaults::self_edge, crate::specs::CaseFaults::first_from), using(crate::proofs::FirstFaults::walks))]
     pub(crate) fn self_edge(&self, c: usize) -> Option<CaseFault>
         ensures { result ≡ self_edge c self.now }
     {
-        first_fault(self.edges.as_slice(), |edge, _| {
-            edge.is_self_edge()
-                .then_some(CaseFault::SelfEdge(c, edge.from))
-        })
+        let edges = self.edges.as_slice();
+        for n in 0..edges.len() {
+            let edge = &edges[n];
+            if edge.is_self_edge() {
+                return Some(CaseFault::SelfEdge(c, edge.from));
+            }
+        }
+        None
     }
 
     /// Returns the first edge with the ends of an earlier one.
@@ -100,12 +116,17 @@ impl DraftComponent {
     }
 
     /// Returns the first edge that isn't from 0 to 1.
-    #[tactic(auto, unfolding(crate::specs::CaseFaults::edge_range))]
+    #[tactic(auto, unfolding(crate::specs::CaseFaults::edge_range, crate::specs::CaseFaults::first_from), using(crate::proofs::FirstFaults::walks))]
     pub(crate) fn edge_range(&self, c: usize) -> Option<CaseFault>
         ensures { result ≡ edge_range c self.now }
     {
-        first_fault(self.edges.as_slice(), |edge, _| {
-            (!edge.entry.is_unit()).then_some(CaseFault::EdgeRange(c, edge.from, edge.to))
-        })
+        let edges = self.edges.as_slice();
+        for n in 0..edges.len() {
+            let edge = &edges[n];
+            if !edge.entry.is_unit() {
+                return Some(CaseFault::EdgeRange(c, edge.from, edge.to));
+            }
+        }
+        None
     }
 }

@@ -1,11 +1,11 @@
 //! Stages of drafts, and their tests.
-ghost use Rattle.std.specs.Prelude.{◌≡◌, ◌<◌, length, get_or};
+ghost use Rattle.std.specs.Prelude.{◌≡◌, ◌||◌, not, nat_le};
 ghost use Rattle.std.specs.List.{list_all, list_any};
-ghost use Rattle.case_model.specs.declared.draft_stages.Arrival.{Arrival};
 ghost use Rattle.case_model.specs.Draft.{is_of, arrives_among};
 ghost use Rattle.case_model.specs.CaseFaults.{
   ◌or◌,
   first_of,
+  has_all_stages,
   long_arrival,
   spend_count,
   step_order,
@@ -13,13 +13,12 @@ ghost use Rattle.case_model.specs.CaseFaults.{
   spend_sum,
   spends_fault,
   arrival_stage,
-  repeated_arrival,
   arrival_repeated,
   arrival_range,
   arrivals_fault,
 };
 
-use crate::first_faults::{first_below, first_fault};
+use crate::first_faults::first_fault;
 use crate::fraction_tests::{is_short_p_value, is_unit};
 use crate::{CaseFault, PartPlace, Spend};
 use field_core::List;
@@ -73,33 +72,50 @@ impl DraftStages {
         ensures { result ≡ stages_fault size alpha.now self.now }
     {
         let count = self.count;
-        (count == 0)
-            .then_some(CaseFault::NoStage)
-            .or_else(|| (count > 12).then_some(CaseFault::TooManyStages(count)))
-            .or_else(|| spends_fault(size, count, alpha, self.spend.as_slice()))
-            .or_else(|| arrivals_fault(count, self.arrivals.as_slice()))
+        if count == 0 {
+            return Some(CaseFault::NoStage);
+        }
+        if count > 12 {
+            return Some(CaseFault::TooManyStages(count));
+        }
+        spends_fault(size, count, alpha, self.spend.as_slice()).or_else(|| arrivals_fault(
+            count,
+            self.arrivals.as_slice(),
+        ))
     }
 }
 
 /// Returns the first p-value that arrived with a denominator above 10^30.
-#[tactic(auto, unfolding(crate::specs::CaseFaults::long_arrival))]
+#[tactic(auto, unfolding(crate::specs::CaseFaults::long_arrival, crate::specs::CaseFaults::first_from), using(crate::proofs::FirstFaults::walks))]
 fn long_arrival(arrivals: &[Arrival]) -> Option<CaseFault>
     ensures { result ≡ long_arrival arrivals.now }
 {
-    first_fault(arrivals, |arrival, n| {
-        (!is_short_p_value(&arrival.p)).then_some(CaseFault::PartTooLong(PartPlace::Arrival(n)))
-    })
+    for n in 0..arrivals.len() {
+        if !is_short_p_value(&arrivals[n].p) {
+            return Some(CaseFault::PartTooLong(PartPlace::Arrival(n)));
+        }
+    }
+    None
+}
+
+/// Whether the spend at a place is past the last of a number of hypotheses, or isn't for each of `count` stages.
+fn is_miscounted(size: usize, count: u64, spend: &Spend, i: usize) -> bool
+    ensures { result ≡ (nat_le size i || not (has_all_stages count spend.now)) }
+{
+    i >= size || !spend.has_all_stages(count)
 }
 
 /// Returns the first of a number of hypotheses that doesn't spend at each of `count` stages, or the first place past them.
-#[tactic(auto, unfolding(crate::specs::CaseFaults::spend_count))]
+#[tactic(auto, unfolding(crate::specs::CaseFaults::spend_count, crate::specs::CaseFaults::first_from), using(crate::proofs::FirstFaults::walks))]
 fn spend_count(size: usize, count: u64, spends: &[Spend]) -> Option<CaseFault>
     ensures { result ≡ spend_count size count spends.now }
 {
-    first_fault(spends, |spend, i| {
-        (i >= size || !spend.has_all_stages(count)).then_some(CaseFault::SpendCount(i))
-    })
-    .or_else(|| (spends.len() < size).then_some(CaseFault::SpendCount(spends.len())))
+    for i in 0..spends.len() {
+        if is_miscounted(size, count, &spends[i], i) {
+            return Some(CaseFault::SpendCount(i));
+        }
+    }
+    (spends.len() < size).then_some(CaseFault::SpendCount(spends.len()))
 }
 
 /// Returns the first fault of what this number of hypotheses spend at `count` stages.
@@ -122,21 +138,31 @@ fn levels_fault(alpha: &Fraction, spends: &[Spend]) -> Option<CaseFault>
 }
 
 /// Returns the first fault of the sums of what is spent.
+#[tactic(auto, unfolding(crate::specs::CaseFaults::first_from), using(crate::proofs::FirstFaults::walks))]
 fn spend_sum(alpha: &Fraction, spends: &[Spend]) -> Option<CaseFault>
     ensures { result ≡ first_of (spend_sum alpha.now) spends.now }
 {
-    first_fault(spends, |spend, i| spend.sum_fault(i, alpha))
+    for i in 0..spends.len() {
+        let fault = spends[i].sum_fault(i, alpha);
+        if fault.is_some() {
+            return fault;
+        }
+    }
+    None
 }
 
 /// Returns the first arrival at what isn't one of a number of stages.
-#[tactic(auto, unfolding(crate::specs::CaseFaults::arrival_stage))]
+#[tactic(auto, unfolding(crate::specs::CaseFaults::arrival_stage, crate::specs::CaseFaults::first_from), using(crate::proofs::FirstFaults::walks))]
 fn arrival_stage(count: u64, arrivals: &[Arrival]) -> Option<CaseFault>
     ensures { result ≡ arrival_stage count arrivals.now }
 {
-    first_fault(arrivals, |arrival, n| {
-        let known = arrival.stage >= 1 && arrival.stage as u64 <= count;
-        (!known).then_some(CaseFault::ArrivalStage(n))
-    })
+    for n in 0..arrivals.len() {
+        let stage = arrivals[n].stage as u64;
+        if stage < 1 || stage > count {
+            return Some(CaseFault::ArrivalStage(n));
+        }
+    }
+    None
 }
 
 /// Whether one of the arrivals is of a hypothesis at a stage.
@@ -146,31 +172,31 @@ fn has(arrivals: &[Arrival], hypothesis: usize, stage: usize) -> bool
     arrivals.iter().any(|arrival| arrival.hypothesis == hypothesis && arrival.stage == stage)
 }
 
-/// Returns the fault if the arrival at a place has the hypothesis and the stage of an earlier one.
-#[tactic(auto, using(std::proofs::lemmas::List::get_or_default))]
-fn repeated_arrival(arrivals: &[Arrival], n: usize) -> Option<CaseFault>
-    requires { n < length arrivals.now }
-    ensures { (d : Arrival) → result ≡ repeated_arrival arrivals.now n (get_or arrivals.now n d) }
-{
-    let arrival = &arrivals[n];
-    has(&arrivals[..n], arrival.hypothesis, arrival.stage).then_some(CaseFault::ArrivalRepeated(n))
-}
-
 /// Returns the first arrival with the hypothesis and the stage of an earlier one.
+#[tactic(auto, unfolding(crate::specs::CaseFaults::arrival_repeated, crate::specs::CaseFaults::first_from), using(crate::proofs::FirstFaults::walks))]
 fn arrival_repeated(arrivals: &[Arrival]) -> Option<CaseFault>
     ensures { result ≡ arrival_repeated arrivals.now }
 {
-    first_below(arrivals.len(), |n| repeated_arrival(arrivals, n))
+    for n in 0..arrivals.len() {
+        let arrival = &arrivals[n];
+        if has(&arrivals[..n], arrival.hypothesis, arrival.stage) {
+            return Some(CaseFault::ArrivalRepeated(n));
+        }
+    }
+    None
 }
 
 /// Returns the first p-value that arrived and isn't from 0 to 1.
-#[tactic(auto, unfolding(crate::specs::CaseFaults::arrival_range))]
+#[tactic(auto, unfolding(crate::specs::CaseFaults::arrival_range, crate::specs::CaseFaults::first_from), using(crate::proofs::FirstFaults::walks))]
 fn arrival_range(arrivals: &[Arrival]) -> Option<CaseFault>
     ensures { result ≡ arrival_range arrivals.now }
 {
-    first_fault(arrivals, |arrival, n| {
-        (!is_unit(&arrival.p)).then_some(CaseFault::ArrivalRange(n))
-    })
+    for n in 0..arrivals.len() {
+        if !is_unit(&arrivals[n].p) {
+            return Some(CaseFault::ArrivalRange(n));
+        }
+    }
+    None
 }
 
 /// Returns the first fault of the p-values that arrived at this number of stages.

@@ -2,7 +2,7 @@
 use field_core::{List, NoMemory, Text, WideAt};
 
 /// Where a number is in a draft. Components, hypotheses, stages, steps and arrivals are named by their places, from 0.
-#[derive(Clone, Copy, PartialEq, Eq, Debug)]
+#[derive(Clone, Copy, PartialEq, Eq)]
 pub enum PartPlace {
     Alpha,
     /// Of a component.
@@ -24,7 +24,7 @@ pub enum PartPlace {
 /// Why a draft is refused. The rows are tested in this order, each for all components, hypotheses and places of a list, in
 /// ascending order, before the next. Numbers with long parts are tested in the order of `PartPlace`, and a table step by step.
 /// Components, hypotheses, stages, steps and arrivals are named by their places, from 0.
-#[derive(Clone, Copy, PartialEq, Eq, Debug)]
+#[derive(Clone, Copy, PartialEq, Eq)]
 pub enum CaseFault {
     /// There is no name.
     NoHypothesis,

@@ -1,24 +1,9 @@
 //! What a test finds first.
-ghost use Rattle.std.specs.Prelude.{◌≡◌, ◌<◌, ℕ, Option};
+ghost use Rattle.std.specs.Prelude.{◌≡◌, ℕ, Option};
 ghost use Rattle.case_model.specs.declared.fault.CaseFault.{CaseFault};
-ghost use Rattle.case_model.specs.CaseFaults.{first_of, first_below};
+ghost use Rattle.case_model.specs.CaseFaults.{first_of};
 
 use crate::CaseFault;
-
-/// Returns what a test finds first at the positions below a number.
-pub fn first_below<F: Fn(usize) -> Option<CaseFault>>(count: usize, test: F) -> Option<CaseFault>
-    requires { (i : ℕ) → i < count → F.pre test i }
-    ensures { (row : ℕ → Option CaseFault) → ((i : ℕ) (r : Option CaseFault) → i < count → F.post test i r
-        → r ≡ row i) → result ≡ first_below row count }
-{
-    for i in 0..count {
-        let fault = test(i);
-        if fault.is_some() {
-            return fault;
-        }
-    }
-    None
-}
 
 /// Returns what a test of items at their places finds first in a list.
 pub fn first_fault<T, F: Fn(&T, usize) -> Option<CaseFault>>(

@@ -1,12 +1,11 @@
 //! Names of hypotheses.
-ghost use Rattle.std.specs.Prelude.{◌≡◌, ◌<◌, [], length, get_or};
+ghost use Rattle.std.specs.Prelude.{◌≡◌};
 ghost use Rattle.std.specs.List.{list_all, list_any};
 ghost use Rattle.std.specs.Str.{bytes_eq};
 ghost use Rattle.case_model.specs.Draft.{is_name_byte, is_name};
-ghost use Rattle.case_model.specs.CaseFaults.{name_form, repeated_name, duplicate_name, names_fault};
+ghost use Rattle.case_model.specs.CaseFaults.{name_form, duplicate_name, names_fault};
 
 use crate::CaseFault;
-use crate::first_faults::{first_below, first_fault};
 use field_core::Text;
 
 fn is_name_byte(byte: u8) -> bool
@@ -37,29 +36,29 @@ fn has(names: &[Text], name: &[u8]) -> bool
 }
 
 /// Returns the first name that isn't well formed.
-#[tactic(auto, unfolding(crate::specs::CaseFaults::name_form))]
+#[tactic(auto, unfolding(crate::specs::CaseFaults::name_form, crate::specs::CaseFaults::first_from), using(crate::proofs::FirstFaults::walks))]
 fn name_form(names: &[Text]) -> Option<CaseFault>
     ensures { result ≡ name_form names.now }
 {
-    first_fault(names, |name, i| {
-        (!is_name(name.as_bytes())).then_some(CaseFault::NameForm(i))
-    })
-}
-
-/// Returns the fault if the name at a place is equal to an earlier one.
-#[tactic(auto, using(std::proofs::lemmas::List::get_or_default))]
-fn repeated_name(names: &[Text], i: usize) -> Option<CaseFault>
-    requires { i < length names.now }
-    ensures { result ≡ repeated_name names.now i (get_or names.now i []) }
-{
-    has(&names[..i], names[i].as_bytes()).then_some(CaseFault::DuplicateName(i))
+    for i in 0..names.len() {
+        if !is_name(names[i].as_bytes()) {
+            return Some(CaseFault::NameForm(i));
+        }
+    }
+    None
 }
 
 /// Returns the first name that is equal to an earlier one.
+#[tactic(auto, unfolding(crate::specs::CaseFaults::duplicate_name, crate::specs::CaseFaults::first_from), using(crate::proofs::FirstFaults::walks))]
 fn duplicate_name(names: &[Text]) -> Option<CaseFault>
     ensures { result ≡ duplicate_name names.now }
 {
-    first_below(names.len(), |i| repeated_name(names, i))
+    for i in 0..names.len() {
+        if has(&names[..i], names[i].as_bytes()) {
+            return Some(CaseFault::DuplicateName(i));
+        }
+    }
+    None
 }
 
 /// Returns the first fault of the names.
@@ -68,10 +67,11 @@ pub fn names_fault(names: &[Text]) -> Option<CaseFault>
     ensures { result ≡ names_fault names.now }
 {
     let count = names.len() as u64;
-    names
-        .is_empty()
-        .then_some(CaseFault::NoHypothesis)
-        .or_else(|| (count > 64).then_some(CaseFault::TooMany(count)))
-        .or_else(|| name_form(names))
-        .or_else(|| duplicate_name(names))
+    if count == 0 {
+        return Some(CaseFault::NoHypothesis);
+    }
+    if count > 64 {
+        return Some(CaseFault::TooMany(count));
+    }
+    name_form(names).or_else(|| duplicate_name(names))
 }

@@ -14,7 +14,6 @@ ghost use Rattle.case_model.specs.CaseFaults.{
   p_values_fault,
 };
 
-use crate::first_faults::first_fault;
 use crate::fraction_tests::{is_short_p_value, is_unit};
 use crate::{CaseFault, PartPlace};
 use fraction::Fraction;
@@ -31,13 +30,16 @@ fn is_long_p_value(p: &Option<Fraction>) -> bool
 }
 
 /// Returns the first p-value with a denominator above 10^30.
-#[tactic(auto, unfolding(crate::specs::CaseFaults::long_p_value))]
+#[tactic(auto, unfolding(crate::specs::CaseFaults::long_p_value, crate::specs::CaseFaults::first_from), using(crate::proofs::FirstFaults::walks))]
 pub fn long_p_value(p: &[Option<Fraction>]) -> Option<CaseFault>
     ensures { result ≡ long_p_value p.now }
 {
-    first_fault(p, |p, i| {
-        is_long_p_value(p).then_some(CaseFault::PartTooLong(PartPlace::P(i)))
-    })
+    for i in 0..p.len() {
+        if is_long_p_value(&p[i]) {
+            return Some(CaseFault::PartTooLong(PartPlace::P(i)));
+        }
+    }
+    None
 }
 
 /// Whether some p-value is given.
@@ -55,10 +57,16 @@ fn is_missing(p: &Option<Fraction>) -> bool
 }
 
 /// Returns the first p-value that isn't given.
+#[tactic(auto, unfolding(crate::specs::CaseFaults::first_from), using(crate::proofs::FirstFaults::walks))]
 fn first_missing(p: &[Option<Fraction>]) -> Option<CaseFault>
     ensures { result ≡ first_of (λ i p. PMissing i when is_none p) p.now }
 {
-    first_fault(p, |p, i| is_missing(p).then_some(CaseFault::PMissing(i)))
+    for i in 0..p.len() {
+        if is_missing(&p[i]) {
+            return Some(CaseFault::PMissing(i));
+        }
+    }
+    None
 }
 
 /// Returns the fault of the first p-value that isn't given, if some p-value is given.
@@ -80,11 +88,16 @@ fn is_outside(p: &Option<Fraction>) -> bool
 }
 
 /// Returns the first p-value that isn't from 0 to 1.
-#[tactic(auto, unfolding(crate::specs::CaseFaults::p_range))]
+#[tactic(auto, unfolding(crate::specs::CaseFaults::p_range, crate::specs::CaseFaults::first_from), using(crate::proofs::FirstFaults::walks))]
 fn p_range(p: &[Option<Fraction>]) -> Option<CaseFault>
     ensures { result ≡ p_range p.now }
 {
-    first_fault(p, |p, i| is_outside(p).then_some(CaseFault::PRange(i)))
+    for i in 0..p.len() {
+        if is_outside(&p[i]) {
+            return Some(CaseFault::PRange(i));
+        }
+    }
+    None
 }
 
 /// Returns the first fault of the p-values of a number of hypotheses.

@@ -9,7 +9,6 @@ ghost use Rattle.case_model.specs.CaseFaults.{first_below, power_sum, written_ro
 ghost use Rattle.case_model.specs.Sums.{ratio_at};
 ghost use Rattle.case_model.specs.Tables.{are_tables};
 
-use crate::first_faults::first_below;
 use crate::sums::written_sum;
 use crate::{CaseFault, Component, Entry};
 use field_core::{Place, TooWide};
@@ -74,7 +73,13 @@ fn first_row(count: usize, c: usize, table: &[Entry]) -> Option<CaseFault>
     requires size { length table.now ≡ count * count }
     ensures { result ≡ first_below (row_sum count c table.now) count }
 {
-    first_below(count, |i| row_sum(count, c, table, i))
+    for i in 0..count {
+        let fault = row_sum(count, c, table, i);
+        if fault.is_some() {
+            return fault;
+        }
+    }
+    None
 }
 
 /// Returns the first fault of the rows of the component at a place.
@@ -88,10 +93,17 @@ fn component_rows(count: usize, components: &[Component], c: usize) -> Option<Ca
 }
 
 /// Returns the first fault of the rows of the components' tables.
+#[tactic(auto, unfolding(crate::specs::CaseFaults::rows_fault, crate::specs::CaseFaults::first_from), using(crate::proofs::FirstFaults::walks))]
 pub fn rows_fault(count: usize, components: &[Component]) -> Option<CaseFault>
     requires few { count ≤ 64 }
     requires tables { are_tables count components.now ≡ true }
     ensures { result ≡ rows_fault count components.now }
 {
-    first_below(components.len(), |c| component_rows(count, components, c))
+    for c in 0..components.len() {
+        let fault = component_rows(count, components, c);
+        if fault.is_some() {
+            return fault;
+        }
+    }
+    None
 }

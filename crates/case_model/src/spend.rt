@@ -2,9 +2,8 @@
 ghost use Rattle.std.specs.Prelude.{◌≡◌, ◌==◌, length};
 ghost use Rattle.std.specs.List.{list_all};
 
-use crate::first_faults::first_fault;
 use crate::fraction_tests::{is_below_zero, is_level_range, is_short_level};
-use crate::spend_step::{copied, falling_level, is_later, weight_before};
+use crate::spend_step::{copied, falling_step, first_sum_fault, is_later, weight_before};
 use crate::stage_levels::{at_stage, meets_fraction, meets_level, table_level};
 use crate::sums::total_fault;
 use crate::{CaseFault, PartPlace, SpendStep};
@@ -70,30 +69,40 @@ impl Spend {
     }
 
     /// Returns the first fraction with a part above 10,000.
-    #[tactic(auto, unfolding(crate::specs::CaseFaults::long_fraction))]
+    #[tactic(auto, unfolding(crate::specs::CaseFaults::long_fraction, crate::specs::CaseFaults::first_from), using(crate::proofs::FirstFaults::walks))]
     pub(crate) fn long_fraction(&self, i: usize) -> Option<CaseFault>
         ensures { result ≡ long_fraction i self.now }
     {
         match self {
-            Spend::Shares(fractions) => first_fault(fractions.as_slice(), |fraction, t| {
-                (!is_short_level(fraction)).then_some(CaseFault::PartTooLong(PartPlace::Spend(
-                    i, t,
-                )))
-            }),
+            Spend::Shares(fractions) => {
+                let fractions = fractions.as_slice();
+                for t in 0..fractions.len() {
+                    if !is_short_level(&fractions[t]) {
+                        return Some(CaseFault::PartTooLong(PartPlace::Spend(i, t)));
+                    }
+                }
+                None
+            }
             Spend::Table(_) => None,
         }
     }
 
     /// Returns the first step with a part above 10^18.
-    #[tactic(auto, unfolding(crate::specs::CaseFaults::long_step))]
+    #[tactic(auto, unfolding(crate::specs::CaseFaults::long_step, crate::specs::CaseFaults::first_from), using(crate::proofs::FirstFaults::walks))]
     pub(crate) fn long_step(&self, i: usize) -> Option<CaseFault>
         ensures { result ≡ long_step i self.now }
     {
         match self {
             Spend::Shares(_) => None,
-            Spend::Table(steps) => first_fault(steps.as_slice(), |step, n| {
-                (!step.is_short()).then_some(CaseFault::PartTooLong(PartPlace::Step(i, n)))
-            }),
+            Spend::Table(steps) => {
+                let steps = steps.as_slice();
+                for n in 0..steps.len() {
+                    if !steps[n].is_short() {
+                        return Some(CaseFault::PartTooLong(PartPlace::Step(i, n)));
+                    }
+                }
+                None
+            }
         }
     }
 
@@ -122,7 +131,7 @@ impl Spend {
     }
 
     /// Returns the first step whose weight isn't above 0, at most 1 and above that of the step before.
-    #[tactic(auto, unfolding(crate::specs::CaseFaults::step_order))]
+    #[tactic(auto, unfolding(crate::specs::CaseFaults::step_order, crate::specs::CaseFaults::first_from), using(crate::proofs::FirstFaults::walks))]
     pub(crate) fn step_order(&self, i: usize) -> Option<CaseFault>
         ensures { result ≡ step_order i self.now }
     {
@@ -130,31 +139,33 @@ impl Spend {
             Spend::Shares(_) => None,
             Spend::Table(steps) => {
                 let steps = steps.as_slice();
-                first_fault(steps, |step, n| {
-                    let before = weight_before(steps, n);
-                    let in_order = is_level_range(&step.from) && is_later(before, &step.from);
-                    (!in_order).then_some(CaseFault::StepOrder(i, n))
-                })
+                for n in 0..steps.len() {
+                    let from = &steps[n].from;
+                    if !is_level_range(from) || !is_later(weight_before(steps, n), from) {
+                        return Some(CaseFault::StepOrder(i, n));
+                    }
+                }
+                None
             }
         }
     }
 
     /// Returns the first fraction below 0; or the first level, step by step, that is below 0 or below that of the step before.
-    #[tactic(auto, unfolding(crate::specs::CaseFaults::spend_range))]
+    #[tactic(auto, unfolding(crate::specs::CaseFaults::spend_range, crate::specs::CaseFaults::first_from), using(crate::proofs::FirstFaults::walks))]
     pub(crate) fn range_fault(&self, i: usize) -> Option<CaseFault>
         ensures { result ≡ spend_range i self.now }
     {
         match self {
-            Spend::Shares(fractions) => first_fault(fractions.as_slice(), |fraction, t| {
-                is_below_zero(fraction).then_some(CaseFault::SpendRange(i, t))
-            }),
-            Spend::Table(steps) => {
-                let steps = steps.as_slice();
-                first_fault(
-                    steps,
-                    |step, n| falling_level(i, steps, n, step.levels.as_slice()),
-                )
+            Spend::Shares(fractions) => {
+                let fractions = fractions.as_slice();
+                for t in 0..fractions.len() {
+                    if is_below_zero(&fractions[t]) {
+                        return Some(CaseFault::SpendRange(i, t));
+                    }
+                }
+                None
             }
+            Spend::Table(steps) => falling_step(i, steps.as_slice()),
         }
     }
 
@@ -175,10 +186,7 @@ impl Spend {
                     above,
                 )
             }
-            Spend::Table(steps) => first_fault(
-                steps.as_slice(),
-                |step, _| step.sum_fault(i, alpha),
-            ),
+            Spend::Table(steps) => first_sum_fault(i, steps.as_slice(), alpha),
         }
     }
 }

@@ -1,10 +1,9 @@
 //! Steps of tables of levels, and the tests of one table.
 ghost use Rattle.std.specs.Prelude.{◌≡◌, IfOk};
 ghost use Rattle.std.specs.Option.{option_map};
-ghost use Rattle.case_model.specs.CaseFaults.{is_later, is_lower, level_of, step_before, falling_level};
+ghost use Rattle.case_model.specs.CaseFaults.{first_of, is_later, is_lower, level_of, step_before, falling_level, step_sum};
 
 use crate::CaseFault;
-use crate::first_faults::first_fault;
 use crate::fraction_tests::{are_short, is_below_zero, is_short};
 use crate::sums::written_sum;
 use field_core::{List, NoMemory, Number, Place, TooWide};
@@ -141,17 +140,43 @@ fn is_lower(before: Option<Fraction>, level: &Fraction) -> bool
 }
 
 /// Returns the first level of the step at place `n` that is below 0, or below that of the step before.
-#[tactic(auto, unfolding(crate::specs::CaseFaults::falling_level))]
-pub fn falling_level(
-    i: usize,
-    steps: &[SpendStep],
-    n: usize,
-    levels: &[Fraction],
-) -> Option<CaseFault>
+#[tactic(auto, unfolding(crate::specs::CaseFaults::falling_level, crate::specs::CaseFaults::first_from), using(crate::proofs::FirstFaults::walks))]
+fn falling_level(i: usize, steps: &[SpendStep], n: usize, levels: &[Fraction]) -> Option<CaseFault>
     ensures { result ≡ falling_level i (step_before steps.now n) levels.now }
 {
-    first_fault(levels, |level, t| {
-        let falls = is_below_zero(level) || is_lower(level_before(steps, n, t), level);
-        falls.then_some(CaseFault::SpendRange(i, t))
-    })
+    for t in 0..levels.len() {
+        let level = &levels[t];
+        if is_below_zero(level) || is_lower(level_before(steps, n, t), level) {
+            return Some(CaseFault::SpendRange(i, t));
+        }
+    }
+    None
+}
+
+/// Returns the first level, step by step, that is below 0, or below that of the step before.
+#[tactic(auto, unfolding(crate::specs::CaseFaults::first_from), using(crate::proofs::FirstFaults::walks))]
+pub fn falling_step(i: usize, steps: &[SpendStep]) -> Option<CaseFault>
+    ensures { result ≡ first_of (λ n s. falling_level i (step_before steps.now n) s.levels) steps.now }
+{
+    for n in 0..steps.len() {
+        let fault = falling_level(i, steps, n, steps[n].levels.as_slice());
+        if fault.is_some() {
+            return fault;
+        }
+    }
+    None
+}
+
+/// Returns the first fault of the sums of the steps of a hypothesis.
+#[tactic(auto, unfolding(crate::specs::CaseFaults::first_from), using(crate::proofs::FirstFaults::walks))]
+pub fn first_sum_fault(i: usize, steps: &[SpendStep], alpha: &Fraction) -> Option<CaseFault>
+    ensures { result ≡ first_of (λ _ s. step_sum i alpha.now s) steps.now }
+{
+    for step in steps {
+        let fault = step.sum_fault(i, alpha);
+        if fault.is_some() {
+            return fault;
+        }
+    }
+    None
 }

@@ -5,7 +5,7 @@ use case_model::CaseFault;
 use field_core::NoMemory;
 
 /// Why a case isn't made. Sizes are tested first, then the seed, then the draft.
-#[derive(Clone, Copy, PartialEq, Eq, Debug)]
+#[derive(Clone, Copy, PartialEq, Eq)]
 pub enum CatalogueFault {
     /// A size is 0; else there are more than 64 hypotheses, and this is their number, or 2^64 - 1 if it is above that.
     Size(u64),

@@ -22,7 +22,7 @@ use Rattle.case_model.specs.Content.{Content, content_of, component_at, empty_co
 use Rattle.case_model.specs.ValidDraft.{Each, IsValidComponent, IsValidSpend, AreValidStages, IsValidDraft}
 use Rattle.case_model.specs.Validity.{IsValidContent}
 use Rattle.case_model.proofs.DraftTests.{all_each, each_all}
-use Rattle.case_model.proofs.FaultlessDrafts.{valid_draft}
+use Rattle.case_model.proofs.DraftValidity.{valid_draft}
 use Rattle.case_model.proofs.Holding.{both, all_at}
 use Rattle.case_model.proofs.StageShapes.{stage_shape}
 use Rattle.case_model.proofs.ValidContents.{HasShape, shape}

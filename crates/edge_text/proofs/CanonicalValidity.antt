@@ -30,9 +30,8 @@ use Rattle.case_model.specs.ValidDraft.{Each, EachTwo, SumsTo, CanSum, IsValidCo
 use Rattle.case_model.specs.Validity.{IsValidContent}
 use Rattle.case_model.proofs.Holding.{both}
 use Rattle.case_model.proofs.Faultless.{length-table_of}
-use Rattle.case_model.proofs.DraftTests.{all_each}
-use Rattle.case_model.proofs.DraftValidity.{unit_of}
-use Rattle.case_model.proofs.FaultlessDrafts.{valid_draft, written_sums, no_fault}
+use Rattle.case_model.proofs.DraftTests.{all_each, unit_of}
+use Rattle.case_model.proofs.DraftValidity.{valid_draft, written_sums, no_fault}
 use Rattle.case_model.proofs.ValidContents.{good_inputs}
 use Rattle.case_model.specs.Sums.{ratio_at}
 use Rattle.edge_text.specs.CanonicalText.{is_absent}
@@ -260,7 +259,7 @@ module _ (d : Draft) (h : case_fault d ≡ None) (five_each : has_coefficients (
     level = valid.level;
     components = all_again m (IsValidComponent m) d.components each_five (λ i k e f. valid_again m k valid.names.some f (valid.components i k e));
     shares = subst (λ xs. SumsTo xs number_one) (sym (same_shares m d.components)) valid.shares;
-    p_values = valid_places m (inputs_of d.stages d.p) (good_inputs d h);
+    p_values = valid_places m (inputs_of d.stages d.p) (good_inputs d (valid_draft d h));
     unmixed = λ s e. unmixed (inputs_of d.stages d.p) s e;
     stages = λ s e. valid.stages s (same_stages d.stages d.p s e);
   }

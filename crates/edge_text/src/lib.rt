@@ -15,7 +15,7 @@
 //!     the canonical text of what is read (`again`).
 //! - `expressions_are_decided`: a text is an expression of one entry, or has one fault, never both.
 //!
-//! Tables of texts, with their lines by hand, are in tests_forms.
+//! Tables of texts, with their lines by hand, are in tests_cases.
 //!
 //! The whole form is read and written: one graph or several with their shares, stages with what each hypothesis
 //! spends, by a list or a table, and p-values that arrived. What is written is read back as the same case, for every

@@ -8,7 +8,7 @@ use Rattle.case_model.specs.CaseFaults.{case_fault}
 use Rattle.case_model.specs.Content.{Content, content_of}
 use Rattle.case_model.specs.ValidDraft.{AreValidNames}
 use Rattle.case_model.specs.Validity.{IsValidContent}
-use Rattle.case_model.proofs.FaultlessDrafts.{valid_draft}
+use Rattle.case_model.proofs.DraftValidity.{valid_draft}
 
 AreValidNames-prop : (names : List (List ℕ)) → IsProp (AreValidNames names)
 AreValidNames-prop names = hlevel (Bool-set, le_prop)

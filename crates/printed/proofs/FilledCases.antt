@@ -9,9 +9,8 @@ use Rattle.case_model.specs.Content.{content_of}
 use Rattle.case_model.specs.Draft.{ArePValues, is_p_value, is_short_p_value, is_unit}
 use Rattle.case_model.specs.ValidDraft.{AreValidPlaces, IsValidDraft, HasWrittenSums}
 use Rattle.case_model.specs.Validity.{IsValidContent}
-use Rattle.case_model.proofs.DraftTests.{all_each}
-use Rattle.case_model.proofs.DraftValidity.{unit_of}
-use Rattle.case_model.proofs.FaultlessDrafts.{valid_draft, written_sums, no_fault}
+use Rattle.case_model.proofs.DraftTests.{all_each, unit_of}
+use Rattle.case_model.proofs.DraftValidity.{valid_draft, written_sums, no_fault}
 use Rattle.case_model.proofs.Holding.{both}
 use Rattle.catalogue.proofs.AloneCases.{inputs_are}
 use Rattle.catalogue.proofs.KnownEnds.{known_arrivals}

@@ -17,7 +17,7 @@ use Rattle.case_model.specs.ValidDraft.{EachTwo}
 use Rattle.case_model.specs.Validity.{IsValidContent}
 use Rattle.case_model.specs.StagedCase.{stages_in}
 use Rattle.case_model.proofs.DraftTests.{all_each}
-use Rattle.case_model.proofs.FaultlessDrafts.{valid_draft}
+use Rattle.case_model.proofs.DraftValidity.{valid_draft}
 use Rattle.case_model.proofs.Holding.{both}
 use Rattle.case_model.proofs.StageShapes.{stage_shape}
 use Rattle.staged_levels.specs.Studies.{IsStage, MayArrive}

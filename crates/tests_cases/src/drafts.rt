@@ -40,7 +40,7 @@ fn expect_refused(rt: &(impl Abort + AllocGlobal), first: &str, rows: &[(&str, C
         let (text, wanted) = row;
         let names = draft(rt, first, text).names;
         let found = fault(rt, draft(rt, first, text), names.as_slice());
-        expect(rt, found == *wanted, &(found, row));
+        expect(rt, found == *wanted, text);
     }
 }
 
@@ -72,7 +72,7 @@ fn names_are_refused(rt: HostRuntime) {
         let mut draft = draft(&rt, TWO, "");
         draft.names = texts(&rt, names);
         let found = fault(&rt, draft, texts(&rt, names).as_slice());
-        expect(&rt, found == *wanted, &(found, row));
+        expect(&rt, found == *wanted, names);
     }
 }
 

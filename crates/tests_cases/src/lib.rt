@@ -1,7 +1,8 @@
-//! Tests of cases, of their numbers and of named graphs.
+//! Tests of cases, of their numbers, of named graphs and of the forms of a case.
 //!
 //! Drafts with each fault and with pairs of faults, and drafts that make cases, with several components and with stages. Also
-//! positions in an index of names, sets of hypotheses, named graphs and samples, with values by hand.
+//! positions in an index of names, sets of hypotheses, named graphs and samples, with values by hand. Lines and words,
+//! expressions, texts, sheets and JSON are in `forms`.
 #![tactic(auto)]
 
 #[cfg(test)]
@@ -12,6 +13,8 @@ mod contents;
 mod draft_faults;
 #[cfg(test)]
 mod drafts;
+#[cfg(test)]
+mod forms;
 #[cfg(test)]
 mod lines;
 #[cfg(test)]

@@ -1,5 +1,6 @@
 //! Tests of decisions, with values by hand: rejections one by one, in any order and in each priority, events of studies,
-//! adjusted p-values. Also the closed test of all intersections, Simes' test and bounds.
+//! adjusted p-values. Also the closed test of all intersections, Simes' test and bounds. The graphs that removals leave are in
+//! `graphs`, and evidence is in `checking`.
 #![tactic(auto)]
 
 #[cfg(test)]
@@ -9,9 +10,13 @@ mod bounds;
 #[cfg(test)]
 mod cases;
 #[cfg(test)]
+mod checking;
+#[cfg(test)]
 mod closed;
 #[cfg(test)]
 mod decisions;
+#[cfg(test)]
+mod graphs;
 #[cfg(test)]
 mod orders;
 #[cfg(test)]
