@@ -1,0 +1,3 @@
+mod Rounding
+mod Grids
+mod Values

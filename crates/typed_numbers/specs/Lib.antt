@@ -1,0 +1,5 @@
+pub mod Intervals
+pub mod Rounding
+pub mod Searches
+pub mod Rules
+pub mod Laws

@@ -1,0 +1,4 @@
+//! Doubles as fractions.
+#![tactic(auto)]
+
+pub mod laws;
