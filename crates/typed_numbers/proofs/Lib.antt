@@ -1,3 +1,3 @@
-mod Rounding
-mod Grids
-mod Values
+mod ByTheRules
+mod Near
+mod Unique

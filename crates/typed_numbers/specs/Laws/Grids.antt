@@ -8,7 +8,7 @@ use lib.Ieee.Nearest.{closest}
 use lib.Ieee.Digits.{size-lt, size_reaches, size-le}
 use lib.Ieee.Scale.{grid}
 use Rattle.typed_numbers.specs.Intervals.{IsInside, range_by, below_of}
-use Rattle.typed_numbers.proofs.Rounding.{nearest_is, nearest_within}
+use Rattle.typed_numbers.specs.Laws.Nearest.{nearest_is, nearest_within}
 
 -- how many digits are dropped
 drop_is : (w s : ℕ) → 2 ^ 52 * 2 ^ s ≤ w → w < 2 ^ 53 * 2 ^ s → size w - 53 ≡ s

@@ -10,7 +10,7 @@ use lib.Ieee.Exact.{HasValue, odd_sign}
 use lib.Ieee.Scale.{grid, finite, round_val, round_under}
 use Rattle.typed_numbers.specs.Intervals.{IsInside, range_of, range_by, mantissa_by, shift_by, exponent_of, digits_of}
 use Rattle.typed_numbers.specs.Rounding.{RoundsTo, units, units_of}
-use Rattle.typed_numbers.proofs.Grids.{forward, backward, forward_finest, backward_finest}
+use Rattle.typed_numbers.specs.Laws.Grids.{forward, backward, forward_finest, backward_finest}
 
 cross : (a b c u v x y : ℕ) → 0 < c → 0 < u → 0 < v → x * c ≡ a * u → y * c ≡ b * v → (x * v ≡ y * u) ↔ (a ≡ b)
 cross a b c u v x y hc hu hv e f = (
