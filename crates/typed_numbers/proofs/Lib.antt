@@ -1,3 +1,5 @@
 mod ByTheRules
 mod Near
+mod Neighbours
 mod Unique
+mod Wide
