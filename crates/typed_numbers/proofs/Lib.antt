@@ -1,5 +1,7 @@
 mod ByTheRules
 mod Near
 mod Neighbours
+mod Quarters
+mod Steps
 mod Unique
 mod Wide

@@ -20,9 +20,7 @@ const TEN_TO_30: u128 = 1_000_000_000_000_000_000_000_000_000_000;
 /// Returns numerator and denominator of what a double from 0 to 1 is read as, not always in lowest terms.
 fn parts(bits: u64) -> (u128, u128)
     requires { bits ≤ 0x3ff0000000000000 }
-    ensures read { IsReadAs bits result.0 result.1 }
-    ensures num { result.0 < 2 ^ 127 }
-    ensures den { result.1 < 2 ^ 127 }
+    ensures { IsReadAs bits result.0 result.1 }
 {
     if bits == 0 {
         return (0, 1);

@@ -27,7 +27,6 @@ fn simplest_between(
     requires scale { scale ≤ 2 ^ 70 }
     requires limit { limit ≤ 10000 }
     ensures found { IfSome result (λ f. IsSimplestIn (record { scale = scale; low = low; high = high; ends = ends }) limit f.0 f.1) }
-    ensures short { IfSome result (λ f. f.0 ≤ f.1) }
     ensures none { result ≡ None → HasNoneIn (record { scale = scale; low = low; high = high; ends = ends }) limit }
 {
     let mut a: u128 = 0;
@@ -57,7 +56,6 @@ fn simplest_between(
 /// Returns the fraction of the least denominator in the interval of a double, or nothing if that passes 10,000.
 pub fn simplest(x: Interval) -> Option<(u128, u128)>
     ensures found { IfSome result (λ f. IsSimplestIn (record { scale = 2 ^ x.places; low = x.low; high = x.high; ends = x.ends }) 10000 f.0 f.1) }
-    ensures short { IfSome result (λ f. f.0 ≤ f.1) }
     ensures none { result ≡ None → HasNoneIn (record { scale = 2 ^ x.places; low = x.low; high = x.high; ends = x.ends }) 10000 }
 {
     if x.places > MOST_PLACES {
