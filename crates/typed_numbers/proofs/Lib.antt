@@ -1,3 +1,4 @@
+mod Answers
 mod ByTheRules
 mod Near
 mod Neighbours

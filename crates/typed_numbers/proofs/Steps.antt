@@ -1,10 +1,10 @@
 -- What each step of a reading finds is what the rules say.
-use Rattle.std.proofs.Common.{◌≡◌, ℕ, zero, suc, ◌+◌, ◌*◌, ◌-◌, ◌^◌, ◌<◌, ◌≤◌, ◌⊎◌, ap, arith, inl, inr, sym, subst, refl}
+use Rattle.std.proofs.Common.{◌≡◌, ℕ, suc, ◌*◌, ◌-◌, ◌^◌, ◌<◌, ◌≤◌, arith, inl, inr, sym, subst, refl}
 use Rattle.std.proofs.lemmas.Bool.{cases_lt}
 use Rattle.std.proofs.lemmas.Nat.{pow_pos}
 use Rattle.std.proofs.Math.Nat.{mul-le-mul_left, mul-pos}
 use Rattle.typed_numbers.specs.Intervals.{mantissa_by, shift_by, exponent_of, digits_of}
-use Rattle.typed_numbers.specs.Rounding.{RoundsTo, units_of}
+use Rattle.typed_numbers.specs.Rounding.{units_of}
 use Rattle.typed_numbers.specs.Rules.{IsSimplest, HasNoSimple, IsNearest, IsShortest, HasNoDecimal, IsRoundedUp, IsReadAs, simplest}
 use Rattle.typed_numbers.specs.Searches.{IsIntervalOf, IsSimplestIn, HasNoneIn, IsShortestIn, HasNoDecimalIn, IsLeastAbove}
 use Rattle.typed_numbers.specs.Laws.Values.{units_are}

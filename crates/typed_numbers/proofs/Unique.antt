@@ -1,9 +1,7 @@
 -- A double has one reading at most.
 use Rattle.std.proofs.Common.{◌≡◌, ℕ, zero, suc, ◌+◌, ◌*◌, ◌-◌, ◌%◌, ◌^◌, ◌<◌, ◌≤◌, ◌⊎◌, pos, arith, ap, subst, sym, refl, inl, inr, ◌∙◌, Option, Some, None}
 use Rattle.std.proofs.lemmas.Bool.{cases_lt, cases_order}
-use Rattle.std.proofs.lemmas.Nat.{pow_pos}
-use Rattle.std.proofs.Math.Nat.{mul-le-mul_left, mul-le-mul, mul-pos, pow-le-pow_right}
-use Rattle.fraction.specs.View.{terms_of}
+use Rattle.std.proofs.Math.Nat.{mul-le-mul_left, mul-le-mul, pow-le-pow_right}
 use Rattle.fraction.specs.declared.fraction.Fraction.{Fraction}
 use Rattle.numerals.specs.Lowest.{lowest_terms}
 use Rattle.fraction.proofs.SameRatios.{same_ratio}

@@ -2,7 +2,7 @@
 use Rattle.std.proofs.Common.{◌≡◌, ℕ, zero, suc, ◌+◌, ◌*◌, ◌-◌, ◌%◌, ◌^◌, ◌<◌, ◌≤◌, arith, ap}
 use Rattle.std.proofs.lemmas.Nat.{one_shl}
 use Rattle.std.proofs.Math.Nat.{mul-le-mul, mul-le-mul_left, pow-le-pow_right}
-use Rattle.typed_numbers.specs.Searches.{IsInterval, IsWithin, IsDecimalIn, IsLeastAbove}
+use Rattle.typed_numbers.specs.Searches.{IsInterval, IsDecimalIn, IsLeastAbove}
 
 pub five_some : (j : ℕ) → 0 < 5 ^ j
 five_some zero = omega arith

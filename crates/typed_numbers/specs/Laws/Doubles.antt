@@ -1,9 +1,8 @@
 -- Doubles from 0 to 1: their intervals in units of 2 ^ -1076.
-use Rattle.std.proofs.Common.{◌≡◌, ℕ, zero, suc, ◌+◌, ◌*◌, ◌-◌, ◌/◌, ◌%◌, ◌^◌, ◌<◌, ◌≤◌, arith, ap, subst, sym, inl, inr}
-use Rattle.std.proofs.lemmas.Nat.{pow_pos}
+use Rattle.std.proofs.Common.{◌≡◌, ℕ, zero, suc, ◌+◌, ◌*◌, ◌-◌, ◌^◌, ◌<◌, ◌≤◌, arith, ap, subst, sym, inl, inr}
 use Rattle.std.proofs.Math.Nat.{mul-le-mul_left, mul-le-mul, pow-le-pow_right}
 use Rattle.std.proofs.lemmas.Bool.{cases_lt}
-use Rattle.typed_numbers.specs.Intervals.{IsInside, range_of, range_by, mantissa_by, below_by, shift_by, exponent_of, digits_of}
+use Rattle.typed_numbers.specs.Intervals.{range_of, mantissa_by, below_by, shift_by, exponent_of, digits_of}
 use Rattle.typed_numbers.specs.Rounding.{RoundsTo, units_of}
 use Rattle.typed_numbers.specs.Laws.Values.{intervals_round, units_are}
 

@@ -1,17 +1,15 @@
 -- Each double from 0 to 1 has a reading.
-use Rattle.std.proofs.Common.{◌≡◌, ◌↔◌, ℕ, zero, suc, ◌+◌, ◌*◌, ◌-◌, ◌/◌, ◌%◌, ◌^◌, ◌<◌, ◌≤◌, ◌⊎◌, pos, arith, ap, subst, sym, refl, inl, inr, ◌∙◌, Option, Some, None}
+use Rattle.std.proofs.Common.{◌≡◌, ℕ, zero, suc, ◌+◌, ◌*◌, ◌-◌, ◌/◌, ◌%◌, ◌^◌, ◌<◌, ◌≤◌, ◌⊎◌, pos, arith, ap, subst, sym, refl, inl, inr, ◌∙◌, Option, Some, None}
 use Rattle.std.proofs.lemmas.Bool.{cases_lt, cases_eq}
 use Rattle.std.proofs.lemmas.Int.{ints}
-use Rattle.std.proofs.Math.Nat.{mul-le-mul_left, mul-pos, pow-le-pow_right}
+use Rattle.std.proofs.Math.Nat.{mul-le-mul_left, pow-le-pow_right}
 use Rattle.field_core.specs.Divisor.{gcd}
-use Rattle.field_core.specs.Terms.{Terms, IsReduced}
-use Rattle.field_core.specs.View.{terms}
-use Rattle.field_core.specs.declared.ratio.Ratio.{Ratio}
+use Rattle.field_core.specs.Terms.{IsReduced}
 use Rattle.fraction.specs.View.{terms_of}
 use Rattle.fraction.specs.declared.fraction.Fraction.{Fraction}
 use Rattle.numerals.specs.Lowest.{lowest_terms, lowest_of}
 use Rattle.numerals.proofs.LowestTerms.{divided, AreDivided, abs_sign}
-use Rattle.typed_numbers.specs.Intervals.{IsInside, range_of}
+use Rattle.typed_numbers.specs.Intervals.{range_of}
 use Rattle.typed_numbers.specs.Rounding.{RoundsTo, units_of, distance}
 use Rattle.typed_numbers.specs.Rules.{IsSimplest, HasNoSimple, IsNearest, IsShortest, HasNoDecimal, IsRoundedUp, IsReadAs, simplest, shortest, rounded_up, IsReading, IsReadable, IsReadingOf}
 use Rattle.typed_numbers.specs.Searches.{gap, IsWithin, IsNearestIn}
@@ -237,7 +235,7 @@ parts_at_most_one bits n q h (rounded_up none no_decimal k) =
     let f : units_of bits * q ≤ q * 2 ^ 1074 = let m = mul-le-mul_left {m = units_of bits} {n = 2 ^ 1074} q u in omega arith in
     (omega arith, k.least q f, omega arith)
 
-lowest_reduced : (n q : ℕ) → 0 < q → n < 2 ^ 127 → q < 2 ^ 127 → IsReduced (lowest_terms (pos n) (pos q))
+pub lowest_reduced : (n q : ℕ) → 0 < q → n < 2 ^ 127 → q < 2 ^ 127 → IsReduced (lowest_terms (pos n) (pos q))
 unfolding lowest_terms lowest_of
 lowest_reduced n q some hn hq =
     let d : AreDivided n q (n / gcd n q) (q / gcd n q) = (divided n q some).1 in

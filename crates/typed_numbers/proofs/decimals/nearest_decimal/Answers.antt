@@ -1,4 +1,4 @@
-use Rattle.std.proofs.Common.{◌+◌, ◌*◌, ◌-◌, ◌%◌, ◌^◌, ◌<◌, ◌≤◌, arith}
+use Rattle.std.proofs.Common.{◌-◌, arith}
 use Rattle.typed_numbers.proofs.Wide.{product_short, shifted, too_wide}
 use Rattle.typed_numbers.proofs.decimals.nearest_decimal.Goals as goal
 

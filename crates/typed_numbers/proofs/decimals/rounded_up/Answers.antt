@@ -1,4 +1,4 @@
-use Rattle.std.proofs.Common.{◌+◌, ◌*◌, ◌-◌, ◌%◌, ◌^◌, ◌<◌, ◌≤◌, arith}
+use Rattle.std.proofs.Common.{◌-◌, arith}
 use Rattle.typed_numbers.proofs.Wide.{shifted, one_above}
 use Rattle.typed_numbers.proofs.decimals.rounded_up.Goals as goal
 

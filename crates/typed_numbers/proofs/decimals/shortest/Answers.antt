@@ -1,7 +1,6 @@
-use Rattle.std.proofs.Common.{◌≡◌, ℕ, ◌+◌, ◌*◌, ◌%◌, ◌^◌, ◌<◌, ◌≤◌, arith, ap, sym, ◌∙◌, refl}
+use Rattle.std.proofs.Common.{◌≡◌, ℕ, ◌*◌, ◌%◌, ◌^◌, ◌≤◌, arith, ap}
 use Rattle.std.proofs.lemmas.Nat.{mul-pow}
-use Rattle.std.proofs.Math.Nat.{mul-le-mul, pow-le-pow_right, mod-eq_of_lt}
-use Rattle.typed_numbers.specs.Searches.{IsShortestIn}
+use Rattle.std.proofs.Math.Nat.{pow-le-pow_right}
 use Rattle.typed_numbers.proofs.decimals.shortest.Goals as goal
 
 -- 5 ^ j shifted by j places is 10 ^ j

@@ -1,4 +1,4 @@
-use Rattle.std.proofs.Common.{◌≡◌, ◌*◌, ◌^◌, ◌<◌, ◌≤◌, arith, subst, sym}
+use Rattle.std.proofs.Common.{◌≤◌, arith, subst, sym}
 use Rattle.typed_numbers.specs.Rules.{IsReadAs, simplest, shortest, rounded_up}
 use Rattle.typed_numbers.proofs.Steps.{zero_read, one_read, simplest_is, none_is_simple, shortest_is, none_is_decimal, rounded_up_is}
 use Rattle.typed_numbers.proofs.readings.parts.Goals as goal
