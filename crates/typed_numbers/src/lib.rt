@@ -10,5 +10,7 @@ mod intervals;
 pub mod laws;
 mod readings;
 mod simplest;
+#[cfg(test)]
+mod tests;
 
 pub use readings::reading;
