@@ -3,6 +3,8 @@ mod ByTheRules
 mod Near
 mod Neighbours
 mod Quarters
+mod Readable
 mod Steps
 mod Unique
+mod Units
 mod Wide

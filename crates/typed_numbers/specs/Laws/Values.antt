@@ -41,14 +41,14 @@ equal-finite (inf s) (inf u) b c k t = absurd k
 equal-finite (inf s) (fin u m e) b c k t = t
 equal-finite (fin s m e) y b c k t = tt
 
-fields_value : (e d : ℕ) → e < 2047 → HasValue (of_fields binary64 false e d) false (mantissa_by e d * 2 ^ shift_by e) (2 ^ 1074)
+pub fields_value : (s : Bool) (e d : ℕ) → e < 2047 → HasValue (of_fields binary64 s e d) s (mantissa_by e d * 2 ^ shift_by e) (2 ^ 1074)
 unfolding of_fields
-fields_value zero d h = odd_sign 53 false d 0 1074
-fields_value (suc e) d h = go (eqb (suc e) 2047) (λ t. let f = eqb→eq (suc e) 2047 t in omega arith)
+fields_value s zero d h = odd_sign 53 s d 0 1074
+fields_value s (suc e) d h = go (eqb (suc e) 2047) (λ t. let f = eqb→eq (suc e) 2047 t in omega arith)
   where
-    go : (b : Bool) → (T b → ⊥) → HasValue (cond b (cond (eqb d 0) (inf false) nan) (odd 53 false (2 ^ 52 + d) e 1074)) false ((2 ^ 52 + d) * 2 ^ e) (2 ^ 1074)
+    go : (b : Bool) → (T b → ⊥) → HasValue (cond b (cond (eqb d 0) (inf s) nan) (odd 53 s (2 ^ 52 + d) e 1074)) s ((2 ^ 52 + d) * 2 ^ e) (2 ^ 1074)
     go true h = absurd (h tt)
-    go false h = odd_sign 53 false (2 ^ 52 + d) e 1074
+    go false h = odd_sign 53 s (2 ^ 52 + d) e 1074
 
 -- the value of a finite double without a sign, by its fields
 pub bits_value : (bits : ℕ) → bits < 2047 * 2 ^ 52
@@ -61,7 +61,7 @@ bits_value bits short = go (leb (2 ^ 63) bits) (λ t. let f = leb→le (2 ^ 63) 
     go true h = absurd (h tt)
     go false h =
         let same : bits % 2 ^ 63 / 2 ^ 52 ≡ bits / 2 ^ 52 = omega arith in
-        rw same (fields_value (bits / 2 ^ 52) (bits % 2 ^ 52) (omega arith))
+        rw same (fields_value false (bits / 2 ^ 52) (bits % 2 ^ 52) (omega arith))
 
 value_units : (x : Float) (a : ℕ) → HasValue x false a (2 ^ 1074) → units x ≡ a
 value_units nan a h = absurd h
