@@ -6,6 +6,7 @@ pub mod Decided
 pub mod DecisionLaws
 pub mod KeptLines
 pub mod OtherLevels
+pub mod OtherPValues
 pub mod RatioFacts
 pub mod RunSteps
 pub mod TrialFacts

@@ -8,5 +8,6 @@ pub mod Choices
 pub mod DecisionRuns
 pub mod RatioSteps
 pub mod OpeningFault
+pub mod OtherPValues
 pub mod DefinedRuns
 pub mod DecisionStatements
