@@ -47,7 +47,7 @@ module _ {O : Type 0} {words : List (List ℕ)} {case : Option (List ℕ)} {case
       → IsUsed (study.ReadsCommands words case) before after faults calls status
       → Ran (over_keeper (study.study_outcome words case before kept) (study.MayEnd words case before kept)
       (study.ReadRose words case case_rose (Rose earlier faults)) (study.KeeperRose words case before (Rose keeper_earlier keeper_faults))
-      (case_same × (faults ≡ earlier)) (keeper_faults ≡ keeper_earlier) kept held)
+      (case_same × (faults ≡ earlier)) (keeper_faults ≡ keeper_earlier) kept held keeper_before keeper_calls)
       → IsStudied Does looks_at words case case_rose case_same from to before after faults calls status Ran
   made_study kept held keeper_earlier keeper_faults keeper_before keeper_calls e k b stored untouched turns used ran = record {
     kept = kept;
@@ -60,8 +60,11 @@ module _ {O : Type 0} {words : List (List ℕ)} {case : Option (List ℕ)} {case
     used = used;
     ran = subst (λ n. Ran (over_keeper (study.study_outcome words case before kept) (study.MayEnd words case before kept)
         (study.ReadRose words case case_rose (Rose 0 faults)) (study.KeeperRose words case before (Rose n keeper_faults))
-        (case_same × (faults ≡ 0)) (keeper_faults ≡ n) kept held)) k
+        (case_same × (faults ≡ 0)) (keeper_faults ≡ n) kept held 0 keeper_calls)) k
         (subst (λ n. Ran (over_keeper (study.study_outcome words case before kept) (study.MayEnd words case before kept)
         (study.ReadRose words case case_rose (Rose n faults)) (study.KeeperRose words case before (Rose keeper_earlier keeper_faults))
-        (case_same × (faults ≡ n)) (keeper_faults ≡ keeper_earlier) kept held)) e ran);
+        (case_same × (faults ≡ n)) (keeper_faults ≡ keeper_earlier) kept held 0 keeper_calls)) e
+        (subst (λ n. Ran (over_keeper (study.study_outcome words case before kept) (study.MayEnd words case before kept)
+        (study.ReadRose words case case_rose (Rose earlier faults)) (study.KeeperRose words case before (Rose keeper_earlier keeper_faults))
+        (case_same × (faults ≡ earlier)) (keeper_faults ≡ keeper_earlier) kept held n keeper_calls)) b ran));
   }

@@ -88,4 +88,4 @@ pub record IsStudied {O : Type 0} (Does : O → Ask → O → Type 0) (looks_at 
   pub used : IsUsed (study.ReadsCommands words case) before after faults calls status
   pub ran : Ran (over_keeper (study.study_outcome words case before kept) (study.MayEnd words case before kept)
       (study.ReadRose words case case_rose (Rose 0 faults)) (study.KeeperRose words case before (Rose 0 keeper_faults))
-      (case_same × (faults ≡ 0)) (keeper_faults ≡ 0) kept held)
+      (case_same × (faults ≡ 0)) (keeper_faults ≡ 0) kept held 0 keeper_calls)

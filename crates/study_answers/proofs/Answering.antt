@@ -1,5 +1,5 @@
 -- What a study answers, from its parts.
-use Rattle.std.proofs.Common.{◌≡◌, inl, inr, refl, sym, ap, ◌∙◌, subst, ℕ, ◌+◌, List, [], ◌∷◌, ◌++◌, length}
+use Rattle.std.proofs.Common.{◌≡◌, arith, inl, inr, refl, sym, ap, ◌∙◌, subst, ℕ, ◌+◌, List, [], ◌∷◌, ◌++◌, length}
 use Rattle.std.proofs.Common.{Err}
 use Rattle.std.specs.Prelude.{IfSome, ⊤, codes}
 use Rattle.std.specs.List.{flat_map}
@@ -23,7 +23,7 @@ use Rattle.study_answers.specs.declared.command.StudyCommand.{StudyCommand}
 use Rattle.study_register.specs.declared.fault.RegisterFault.{RegisterFault}
 use Rattle.study_register.specs.declared.fault.RegisterFault.TheVariants.{BadLook, Wide, Fault, NoMemory}
 use Rattle.study_register.specs.Looking.{arrival_of, arrivals_of, AreTaken}
-use Rattle.study_register.specs.RegisterFaults.{OnLooks, IsRegisterFault, IfLooksRefused}
+use Rattle.study_register.specs.RegisterFaults.{OnLooks, IsRegisterFault, IfLooksRefused, IfAsked}
 use Rattle.study_register.proofs.TakenLooks.{follows_values}
 use Rattle.study_answers.specs.Replies.{looks_taken, AreReplies, IsFirstBreak, MayTake}
 use Rattle.answers.specs.declared.stop.Stop.{Stop}
@@ -31,7 +31,7 @@ use Rattle.answers.specs.declared.stop.Stop.TheVariants.{Refused, ReadFault, Kee
 use Rattle.answers.specs.Ways.{StopsIn}
 use Rattle.study_answers.specs.declared.replying.CommandStop.{CommandStop}
 use Rattle.study_answers.specs.declared.replying.CommandStop.TheVariants as halts
-use Rattle.study_answers.specs.AnswerView.{AreRepliedTo, HoldSome, KeepWith, MayKeep, StopsCommands}
+use Rattle.study_answers.specs.AnswerView.{AreRepliedTo, HoldSome, KeepWith, IsLastFailed, MayKeep, StopsCommands}
 use Rattle.study_answers.specs.KeeperWays.{over_keeper, over_opening}
 use Rattle.study_answers.specs.StudyStages.{HasOpening, opened, study_stage, on_looks}
 use Rattle.study_answers.proofs.Looks.{with_none}
@@ -82,6 +82,10 @@ clean_by_wide P why n w is h = subst (IfLooksRefused P) is h
 pub clean_by_memory : (P : Type 0) (why : RegisterFault) → why ≡ NoMemory → IfLooksRefused P why → P
 clean_by_memory P why is h = subst (IfLooksRefused P) is h
 
+-- the keeper was called where it failed
+pub asked_by : (P : Type 0) (why : RegisterFault) → why ≡ Fault → IfAsked P why → P
+asked_by P why is h = subst (IfAsked P) is h
+
 pub rose_by : (c : Content) (kept : Option (List Look)) (rose : Type 0) (why : RegisterFault) → why ≡ Fault → IsRegisterFault c kept rose why
     → HasOpening c × rose
 rose_by c kept rose why is h = subst (IsRegisterFault c kept rose) is h
@@ -117,10 +121,10 @@ replied_may c (x ∷ xs) n s t [] h = absurd h
 replied_may c (x ∷ xs) n s t (r ∷ rs) h = inr (r, h.0, looks_taken rs, h.1, refl, replied_may c xs (n + 1) h.0 t rs h.2)
 
 module _ (c : Content) (commands : List StudyCommand) (looks : List Look) (s : StudyState) (T : AreTaken c looks s) (kept held : Option (List Look))
-    (told : IfSome kept (λ them. them ≡ looks)) where
+    (told : IfSome kept (λ them. them ≡ looks)) (start before later : ℕ) (once : before ≡ start + 1) where
   pub all_given : (n : ℕ) (text written : List ℕ) (t : StudyState) (answer : Answer) → n ≡ length s.values → text ≡ opened_lines c n
-      → AreRepliedTo c s commands kept held text written t → answer ≡ done (written ++ line (codes "end"))
-      → KeepWith (on_looks kept (study_stage c commands)).Gives kept held answer
+      → AreRepliedTo c s commands kept held before later text written t → answer ≡ done (written ++ line (codes "end"))
+      → KeepWith (on_looks kept (study_stage c commands)).Gives kept held start later answer
   unfolding study_stage study_report
   all_given n text written t answer count e a d = record {
     more = looks_taken a.replies;
@@ -137,62 +141,94 @@ module _ (c : Content) (commands : List StudyCommand) (looks : List Look) (s : S
       }),
     );
     held_is = a.held_is;
+    calls_are = omega (arith, once, a.calls_are);
   }
 
-  pub break_given : (place : ℕ) (w : WideAt) (answer : Answer) → HoldSome (λ ls. IsFirstBreak c 1 s commands ls place w) kept held
+  pub break_given : (place : ℕ) (w : WideAt) (answer : Answer)
+      → HoldSome (λ ls. IsFirstBreak c 1 s commands ls place w × (later ≡ before + length ls)) kept held
       → answer ≡ refused (wide_refusal c.names (AfterLook place) w)
-      → KeepWith (on_looks kept (study_stage c commands)).Gives kept held answer
+      → KeepWith (on_looks kept (study_stage c commands)).Gives kept held start later answer
   unfolding study_stage
   break_given place w answer b d = record {
     more = b.more;
     given = gives_on (study_stage c commands) looks kept (record { answer = answer; looks = b.more }) told
-        (s, T, inr (record { place = place; wide = w; first = b.may; answer_is = d }));
+        (s, T, inr (record { place = place; wide = w; first = b.may.0; answer_is = d }));
     held_is = b.held_is;
+    calls_are = omega (arith, once, b.may.1);
   }
 
   -- some looks of the commands may be kept
+  may_keep : (more : List Look) → MayTake c 1 s commands more → MayKeep c commands kept more
+  may_keep more h = inr (record { looks = looks; told = told; start = s; opened = T; may = h })
+
   pub some_kept : HoldSome (MayTake c 1 s commands) kept held → HoldSome (MayKeep c commands kept) kept held
-  some_kept h = record { more = h.more; may = inr (record { looks = looks; told = told; start = s; opened = T; may = h.may }); held_is = h.held_is }
+  some_kept h = record { more = h.more; may = may_keep h.more h.may; held_is = h.held_is }
+
+  -- the call for a look failed
+  pub look_failed : HoldSome (λ ls. MayTake c 1 s commands ls × (later ≡ before + (length ls + 1))) kept held
+      → HoldSome (λ more. MayKeep c commands kept more × IsLastFailed start later more) kept held
+  look_failed h = record { more = h.more; may = (may_keep h.more h.may.0, inr (omega (arith, once, h.may.1))); held_is = h.held_is }
 
 -- no look is kept also
 pub none_kept : (c : Content) (commands : List StudyCommand) (kept held : Option (List Look)) → held ≡ kept → HoldSome (MayKeep c commands kept) kept held
 none_kept c commands kept held e = record { more = []; may = inl refl; held_is = e ∙ sym (with_none kept) }
 
+-- the call for the kept looks failed
+load_failed : (c : Content) (commands : List StudyCommand) (kept held : Option (List Look)) (start later : ℕ) → held ≡ kept → later ≡ start + 1
+    → HoldSome (λ more. MayKeep c commands kept more × IsLastFailed start later more) kept held
+load_failed c commands kept held start later e once = record { more = []; may = (inl refl, inl (refl, once)); held_is = e ∙ sym (with_none kept) }
+
 -- why kept looks aren't taken, as why the study gives no answer
-pub opening_stops : (c : Content) (commands : List StudyCommand) (kept held : Option (List Look)) (rose clean : Type 0) (stop : Stop) → held ≡ kept
-    → StopsIn (over_opening c rose clean kept) stop
-    → StopsIn (over_keeper (on_looks kept (study_stage c commands)) (MayKeep c commands kept) ⊥ (HasOpening c × rose) ⊤ clean kept held) stop
-opening_stops c commands kept held rose clean (Refused r) e h = (opening_refuses c commands kept r h.0, e, tt, h.1)
-opening_stops c commands kept held rose clean ReadFault e h = absurd h
-opening_stops c commands kept held rose clean KeeperFault e h = (h, none_kept c commands kept held e, tt)
-opening_stops c commands kept held rose clean OutOfMemory e h = (none_kept c commands kept held e, tt, h)
+pub opening_stops : (c : Content) (commands : List StudyCommand) (kept held : Option (List Look)) (start later : ℕ) (rose clean : Type 0) (stop : Stop)
+    → held ≡ kept → StopsIn (over_opening c (rose × (later ≡ start + 1)) clean kept) stop
+    → StopsIn (over_keeper (on_looks kept (study_stage c commands)) (MayKeep c commands kept) ⊥ (HasOpening c × rose) ⊤ clean kept held start later)
+    stop
+opening_stops c commands kept held start later rose clean (Refused r) e h = (opening_refuses c commands kept r h.0, e, tt, h.1)
+opening_stops c commands kept held start later rose clean ReadFault e h = absurd h
+opening_stops c commands kept held start later rose clean KeeperFault e h =
+    ((h.0, h.1.0), load_failed c commands kept held start later e h.1.1, tt)
+opening_stops c commands kept held start later rose clean OutOfMemory e h = (none_kept c commands kept held e, tt, h)
 
 -- ---- after the opening, which leaves the looks of the keeper
 
 module _ (c : Content) (commands : List StudyCommand) (kept now held : Option (List Look)) (same : now ≡ kept) (s : StudyState)
-    (taken : OnLooks kept (λ looks. AreTaken c looks s)) where
+    (taken : OnLooks kept (λ looks. AreTaken c looks s)) (start before later : ℕ) (once : before ≡ start + 1) where
   pub all_answered : (n : ℕ) (text written : List ℕ) (t : StudyState) (answer : Answer) → n ≡ length s.values → text ≡ opened_lines c n
-      → AreRepliedTo c s commands now held text written t → answer ≡ done (written ++ line (codes "end"))
-      → KeepWith (on_looks kept (study_stage c commands)).Gives kept held answer
+      → AreRepliedTo c s commands now held before later text written t → answer ≡ done (written ++ line (codes "end"))
+      → KeepWith (on_looks kept (study_stage c commands)).Gives kept held start later answer
   all_answered n text written t answer count e a d =
-      all_given c commands taken.0 s taken.1 kept held taken.2 n text written t answer count e
-      (subst (λ x. AreRepliedTo c s commands x held text written t) same a) d
+      all_given c commands taken.0 s taken.1 kept held taken.2 start before later once n text written t answer count e
+      (subst (λ x. AreRepliedTo c s commands x held before later text written t) same a) d
 
-  pub break_answered : (place : ℕ) (w : WideAt) (answer : Answer) → HoldSome (λ ls. IsFirstBreak c 1 s commands ls place w) now held
+  pub break_answered : (place : ℕ) (w : WideAt) (answer : Answer)
+      → HoldSome (λ ls. IsFirstBreak c 1 s commands ls place w × (later ≡ before + length ls)) now held
       → answer ≡ refused (wide_refusal c.names (AfterLook place) w)
-      → KeepWith (on_looks kept (study_stage c commands)).Gives kept held answer
-  break_answered place w answer b d = break_given c commands taken.0 s taken.1 kept held taken.2 place w answer
-      (subst (λ x. HoldSome (λ ls. IsFirstBreak c 1 s commands ls place w) x held) same b) d
+      → KeepWith (on_looks kept (study_stage c commands)).Gives kept held start later answer
+  break_answered place w answer b d = break_given c commands taken.0 s taken.1 kept held taken.2 start before later once place w answer
+      (subst (λ x. HoldSome (λ ls. IsFirstBreak c 1 s commands ls place w × (later ≡ before + length ls)) x held) same b) d
 
   -- looks may be kept that the commands before some place take
   may_be_kept : HoldSome (MayTake c 1 s commands) now held → HoldSome (MayKeep c commands kept) kept held
-  may_be_kept h = some_kept c commands taken.0 s taken.1 kept held taken.2 (subst (λ x. HoldSome (MayTake c 1 s commands) x held) same h)
+  may_be_kept h = some_kept c commands taken.0 s taken.1 kept held taken.2 start before later once
+      (subst (λ x. HoldSome (MayTake c 1 s commands) x held) same h)
 
-  pub replied_kept : (text written : List ℕ) (t : StudyState) → AreRepliedTo c s commands now held text written t
+  pub replied_kept : (text written : List ℕ) (t : StudyState) → AreRepliedTo c s commands now held before later text written t
       → HoldSome (MayKeep c commands kept) kept held
   replied_kept text written t a = may_be_kept (record { more = looks_taken a.replies; may = replied_may c commands 1 s t a.replies a.are; held_is = a.held_is })
 
-  pub stopped_kept : (rose : Type 0) (stop : CommandStop) → StopsCommands c rose 1 s commands now held stop → HoldSome (MayKeep c commands kept) kept held
-  stopped_kept rose (halts.Wide place w) h = may_be_kept (record { more = h.more; may = taken_may c commands 1 s h.more place w h.may; held_is = h.held_is })
-  stopped_kept rose halts.Fault h = may_be_kept h.1
+  pub stopped_kept : (rose : Type 0) (stop : CommandStop) → StopsCommands c rose 1 s commands now held before later stop
+      → HoldSome (MayKeep c commands kept) kept held
+  stopped_kept rose (halts.Wide place w) h =
+      may_be_kept (record { more = h.more; may = taken_may c commands 1 s h.more place w h.may.0; held_is = h.held_is })
+  stopped_kept rose halts.Fault h = may_be_kept (record { more = h.1.more; may = h.1.may.0; held_is = h.1.held_is })
   stopped_kept rose halts.NoMemory h = may_be_kept h
+
+  -- a study whose keeper failed at a look
+  pub failed_answered : (rose : Type 0)
+      → rose × HoldSome (λ ls. MayTake c 1 s commands ls × (later ≡ before + (length ls + 1))) now held
+      → (HasOpening c × rose) × HoldSome (λ more. MayKeep c commands kept more × IsLastFailed start later more) kept held
+  failed_answered rose h = (
+    (taken.1.opened, h.0),
+    look_failed c commands taken.0 s taken.1 kept held taken.2 start before later once
+        (subst (λ x. HoldSome (λ ls. MayTake c 1 s commands ls × (later ≡ before + (length ls + 1))) x held) same h.1),
+  )

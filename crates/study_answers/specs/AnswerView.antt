@@ -1,5 +1,5 @@
 -- Replies and ends as contracts see them, with the looks that a keeper holds.
-use Rattle.std.specs.Prelude.{◌≡◌, ◌++◌, ◌⊎◌, ℕ, List, [], IfSome, Option, Some, None}
+use Rattle.std.specs.Prelude.{◌≡◌, ◌+◌, ◌++◌, ◌⊎◌, ℕ, List, [], length, IfSome, Option, Some, None}
 use Rattle.std.specs.List.{flat_map}
 use Rattle.graph_io.specs.declared.keeper.Look.{Look}
 use Rattle.answers.specs.declared.answer.Answer.{Answer}
@@ -18,20 +18,22 @@ abbrev pub with_looks : Option (List Look) → List Look → Option (List Look)
 with_looks None more = None
 with_looks (Some looks) more = Some (looks ++ more)
 
--- A command was replied to: the keeper holds the look that was taken also, and the reply was written.
+-- A command was replied to, and the reply was written. A look that was taken is kept also, by the one call of the keeper; no other is made.
 pub record IsRepliedTo (c : Content) (n : ℕ) (old : StudyState) (command : StudyCommand)
-    (kept held : Option (List Look)) (text written : List ℕ) (new : StudyState) : Type 0 where
+    (kept held : Option (List Look)) (before now : ℕ) (text written : List ℕ) (new : StudyState) : Type 0 where
   pub reply : Reply
   pub is : IsReply c n old command reply new
   pub held_is : held ≡ with_looks kept (taken_in reply)
+  pub calls_are : now ≡ before + length (taken_in reply)
   pub text_is : written ≡ text ++ reply_lines c reply
 
--- Commands were replied to in this way, one after another.
+-- Commands were replied to in this way, one after another. `before` and `now` count the calls of the keeper.
 pub record AreRepliedTo (c : Content) (old : StudyState) (commands : List StudyCommand)
-    (kept held : Option (List Look)) (text written : List ℕ) (new : StudyState) : Type 0 where
+    (kept held : Option (List Look)) (before now : ℕ) (text written : List ℕ) (new : StudyState) : Type 0 where
   pub replies : List Reply
   pub are : AreReplies c 1 old commands replies new
   pub held_is : held ≡ with_looks kept (looks_taken replies)
+  pub calls_are : now ≡ before + length (looks_taken replies)
   pub text_is : written ≡ text ++ flat_map (reply_lines c) replies
 
 -- looks are kept also that may have been taken if the call stopped part way
@@ -40,12 +42,15 @@ pub record HoldSome (May : List Look → Type 0) (kept held : Option (List Look)
   pub may : May more
   pub held_is : held ≡ with_looks kept more
 
--- why commands aren't replied to, the first of which has this number
+-- Why commands aren't replied to, the first of which has this number. `before` and `now` count the calls of the keeper: one for each look that is
+-- kept also, and the one that failed.
 abbrev pub StopsCommands : Content → Type 0 → ℕ → StudyState → List StudyCommand
-    → Option (List Look) → Option (List Look) → CommandStop → Type 0
-StopsCommands c rose n old commands kept held (Wide place w) = HoldSome (λ looks. IsFirstBreak c n old commands looks place w) kept held
-StopsCommands c rose n old commands kept held Fault = rose × HoldSome (MayTake c n old commands) kept held
-StopsCommands c rose n old commands kept held NoMemory = HoldSome (MayTake c n old commands) kept held
+    → (kept held : Option (List Look)) → (before now : ℕ) → CommandStop → Type 0
+StopsCommands c rose n old commands kept held before now (Wide place w) =
+    HoldSome (λ looks. IsFirstBreak c n old commands looks place w × (now ≡ before + length looks)) kept held
+StopsCommands c rose n old commands kept held before now Fault =
+    rose × HoldSome (λ looks. MayTake c n old commands looks × (now ≡ before + (length looks + 1))) kept held
+StopsCommands c rose n old commands kept held before now NoMemory = HoldSome (MayTake c n old commands) kept held
 
 -- a fact if the keeper had no fault: a command stops part way, or memory was exhausted
 abbrev pub IfBroken : Type 0 → CommandStop → Type 0
@@ -53,11 +58,16 @@ IfBroken p (Wide place w) = p
 IfBroken p Fault = Unit {0}
 IfBroken p NoMemory = p
 
--- an answer that is required, and its looks are kept also
-pub record KeepWith (Gives : StudyEnd → Type 0) (kept held : Option (List Look)) (answer : Answer) : Type 0 where
+-- An answer that is required, and its looks are kept also. The keeper was called once to load its looks, and once for each look that is kept also.
+pub record KeepWith (Gives : StudyEnd → Type 0) (kept held : Option (List Look)) (before now : ℕ) (answer : Answer) : Type 0 where
   pub more : List Look
   pub given : Gives (record { answer = answer; looks = more })
   pub held_is : held ≡ with_looks kept more
+  pub calls_are : now ≡ before + (1 + length more)
+
+-- The last call of a keeper failed. It is the one that loads its looks, or it comes after that and after one for each look that is kept also.
+abbrev pub IsLastFailed : (before now : ℕ) → List Look → Type 0
+IsLastFailed before now more = ((more ≡ []) × (now ≡ before + 1)) ⊎ (now ≡ before + (2 + length more))
 
 -- the looks that are kept are all taken, and then these looks by the commands before some place
 pub record MayTakeBehind (c : Content) (commands : List StudyCommand) (kept : Option (List Look)) (more : List Look) : Type 0 where

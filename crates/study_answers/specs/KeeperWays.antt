@@ -1,5 +1,5 @@
 -- The ways in which a call over a keeper may end: what it gives, its faults, and the looks that the keeper holds then.
-use Rattle.std.specs.Prelude.{◌≡◌, List, Option, false}
+use Rattle.std.specs.Prelude.{◌≡◌, ℕ, List, Option, false}
 use Rattle.graph_io.specs.declared.keeper.Look.{Look}
 use Rattle.answers.specs.declared.answer.Answer.{Answer}
 use Rattle.answers.specs.declared.refusal.Refusal.{Refusal}
@@ -11,19 +11,20 @@ use Rattle.study_register.specs.declared.register.Register.{Register}
 use Rattle.study_register.specs.Looking.{AreTaken}
 use Rattle.study_register.specs.RegisterFaults.{OnLooks}
 use Rattle.study_register.specs.RegisterView.{study_in, looks_in, is_spent}
-use Rattle.study_answers.specs.AnswerView.{HoldSome, KeepWith}
+use Rattle.study_answers.specs.AnswerView.{HoldSome, KeepWith, IsLastFailed}
 use Rattle.study_answers.specs.StudyStages.{StudyEnd, HasOpening, opened, on_looks}
 
 -- The ways of a call that answers, over sources and a keeper. `May` says which looks may be added if the call stops by a fault of the keeper or is
 -- out of memory. `read_rose` says that a source that is read had a fault, and `keeper_rose` that the keeper had one; `read_clean` and `keeper_clean`
--- say that their counts of faults stayed. `kept` and `held` are the looks that the keeper held and holds, if it exposes them.
+-- say that their counts of faults stayed. `kept` and `held` are the looks that the keeper held and holds, if it exposes them; `before` and `now`
+-- count its calls.
 abbrev pub over_keeper : Stage Refusal StudyEnd → (List Look → Type 0) → (read_rose keeper_rose read_clean keeper_clean : Type 0)
-    → (kept held : Option (List Look)) → Ways Answer
-over_keeper s May read_rose keeper_rose read_clean keeper_clean kept held = record {
-  Gives = λ a. KeepWith s.Gives kept held a × read_clean × keeper_clean;
+    → (kept held : Option (List Look)) → (before now : ℕ) → Ways Answer
+over_keeper s May read_rose keeper_rose read_clean keeper_clean kept held before now = record {
+  Gives = λ a. KeepWith s.Gives kept held before now a × read_clean × keeper_clean;
   Refuses = λ r. s.Refuses r × (held ≡ kept) × read_clean × keeper_clean;
   read = read_rose × (held ≡ kept) × keeper_clean;
-  keeper = keeper_rose × HoldSome May kept held × read_clean;
+  keeper = keeper_rose × HoldSome (λ more. May more × IsLastFailed before now more) kept held × read_clean;
   memory = HoldSome May kept held × read_clean × keeper_clean;
 }
 

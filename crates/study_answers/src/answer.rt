@@ -1,5 +1,5 @@
 //! What a study answers.
-ghost use Rattle.std.specs.Prelude.{◌≡◌, ◌≤◌, ◌+◌, ◌++◌, IfOk, ⊤, length, codes};
+ghost use Rattle.std.specs.Prelude.{◌≡◌, ◌≤◌, ◌+◌, ◌++◌, IfOk, OnOk, ⊤, length, codes};
 ghost use Rattle.std.specs.List.{AllByRecursion};
 ghost use Rattle.graph_io.specs.Causes.{Rose};
 ghost use Rattle.answers.specs.Lines.{line, done, refused};
@@ -38,11 +38,12 @@ fn refused(refusal: Refusal) -> Answer
 /// Opens the study of a case, and takes all looks that a keeper holds.
 fn opened<K: Keeper>(alloc: Global, case: &Case, keeper: &mut K) -> Result<Register, Stop>
     requires { IsStaged (content case.now).inputs }
-    ensures ends { EndsIn (over_opening (content case.now) (Rose (K.faults keeper.old) (K.faults keeper.new))
-        (K.faults keeper.new ≡ K.faults keeper.old) (K.looks keeper.old)) result }
+    ensures ends { EndsIn (over_opening (content case.now) (Rose (K.faults keeper.old) (K.faults keeper.new)
+        × (K.calls keeper.new ≡ K.calls keeper.old + 1)) (K.faults keeper.new ≡ K.faults keeper.old) (K.looks keeper.old)) result }
     ensures kept { K.looks keeper.new ≡ K.looks keeper.old }
     ensures later { K.faults keeper.old ≤ K.faults keeper.new }
     ensures turns { K.calls keeper.new ≤ K.calls keeper.old + 1 }
+    ensures loaded { OnOk result (K.calls keeper.new ≡ K.calls keeper.old + 1) }
 {
     match Register::open(alloc, case, keeper) {
         Ok(register) => Ok(register),
@@ -82,8 +83,9 @@ fn ended(text: List<u8>) -> Result<Answer, NoMemory>
 /// and the looks before it stay kept.
 ///
 /// A refusal comes exactly if the opening of the case is undefined or a kept look can't be taken, and then no look is added.
-/// The keeper is asked once the opening of the case is defined. Its calls are at most one more than the looks that the commands
-/// ask for.
+/// The keeper is asked only after a defined opening of the case. It is called once to load its looks, and then once for each
+/// look that is taken, but not for one that is refused. The first call that fails is the last. The calls are at most one more
+/// than the looks that the commands ask for.
 pub fn study_answer<K: Keeper>(
     alloc: Global,
     case: &Case,
@@ -95,7 +97,8 @@ pub fn study_answer<K: Keeper>(
     ensures ends { EndsIn (over_keeper (on_looks (K.looks keeper.old) (study_stage (content case.now) commands.now))
         (MayKeep (content case.now) commands.now (K.looks keeper.old))
         ⊥ (HasOpening (content case.now) × Rose (K.faults keeper.old) (K.faults keeper.new))
-        ⊤ (K.faults keeper.new ≡ K.faults keeper.old) (K.looks keeper.old) (K.looks keeper.new)) result }
+        ⊤ (K.faults keeper.new ≡ K.faults keeper.old) (K.looks keeper.old) (K.looks keeper.new)
+        (K.calls keeper.old) (K.calls keeper.new)) result }
     ensures later { K.faults keeper.old ≤ K.faults keeper.new }
     ensures turns { K.calls keeper.new ≤ K.calls keeper.old + (1 + looks_asked commands.now) }
 {

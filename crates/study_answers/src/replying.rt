@@ -45,10 +45,11 @@ fn take<K: Keeper>(
     requires fresh { is_spent register.old ≡ false }
     ensures study { IsStudy (content case.now) (study_in register.new) }
     ensures replied { OnOk result (IsRepliedTo (content case.now) number (looks_in register.old) (AskTake look.now)
-        (K.looks keeper.old) (K.looks keeper.new) text.old text.new (looks_in register.new)) }
+        (K.looks keeper.old) (K.looks keeper.new) (K.calls keeper.old) (K.calls keeper.new) text.old text.new
+        (looks_in register.new)) }
     ensures stopped { IfErr result (StopsCommands (content case.now) (Rose (K.faults keeper.old)
         (K.faults keeper.new)) number (looks_in register.old) (AskTake look.now ∷ []) (K.looks keeper.old)
-        (K.looks keeper.new)) }
+        (K.looks keeper.new) (K.calls keeper.old) (K.calls keeper.new)) }
     ensures fresh { OnOk result (is_spent register.new ≡ false) }
     ensures later { K.faults keeper.old ≤ K.faults keeper.new }
     ensures counted { OnOk result (K.faults keeper.new ≡ K.faults keeper.old) }
@@ -87,10 +88,11 @@ fn reply<K: Keeper>(
     requires fresh { is_spent register.old ≡ false }
     ensures study { IsStudy (content case.now) (study_in register.new) }
     ensures replied { OnOk result (IsRepliedTo (content case.now) number (looks_in register.old) command.now
-        (K.looks keeper.old) (K.looks keeper.new) text.old text.new (looks_in register.new)) }
+        (K.looks keeper.old) (K.looks keeper.new) (K.calls keeper.old) (K.calls keeper.new) text.old text.new
+        (looks_in register.new)) }
     ensures stopped { IfErr result (StopsCommands (content case.now) (Rose (K.faults keeper.old)
         (K.faults keeper.new)) number (looks_in register.old) (command.now ∷ []) (K.looks keeper.old)
-        (K.looks keeper.new)) }
+        (K.looks keeper.new) (K.calls keeper.old) (K.calls keeper.new)) }
     ensures fresh { OnOk result (is_spent register.new ≡ false) }
     ensures later { K.faults keeper.old ≤ K.faults keeper.new }
     ensures counted { OnOk result (K.faults keeper.new ≡ K.faults keeper.old) }
@@ -121,9 +123,11 @@ pub(crate) fn replies<K: Keeper>(
     requires study { IsStudy (content case.now) (study_in register.old) }
     requires fresh { is_spent register.old ≡ false }
     ensures replied { OnOk result (AreRepliedTo (content case.now) (looks_in register.old) commands.now
-        (K.looks keeper.old) (K.looks keeper.new) text.old text.new (looks_in register.new)) }
+        (K.looks keeper.old) (K.looks keeper.new) (K.calls keeper.old) (K.calls keeper.new) text.old text.new
+        (looks_in register.new)) }
     ensures stopped { IfErr result (StopsCommands (content case.now) (Rose (K.faults keeper.old)
-        (K.faults keeper.new)) 1 (looks_in register.old) commands.now (K.looks keeper.old) (K.looks keeper.new)) }
+        (K.faults keeper.new)) 1 (looks_in register.old) commands.now (K.looks keeper.old) (K.looks keeper.new)
+        (K.calls keeper.old) (K.calls keeper.new)) }
     ensures later { K.faults keeper.old ≤ K.faults keeper.new }
     ensures counted { OnOk result (K.faults keeper.new ≡ K.faults keeper.old) }
     ensures broken { IfErr result (IfBroken (K.faults keeper.new ≡ K.faults keeper.old)) }

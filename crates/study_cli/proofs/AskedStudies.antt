@@ -14,21 +14,21 @@ use Rattle.graph_cli.specs.Accepted.{IsOfKind}
 use Rattle.graph_cli.specs.Outcome.{AskStudy}
 use Rattle.graph_cli.specs.declared.kind.InputKind.TheVariants.{Awaited}
 use Rattle.staged_levels.specs.StudyAnswers.{IsStaged}
-use Rattle.study_answers.specs.AnswerView.{HoldSome}
+use Rattle.study_answers.specs.AnswerView.{HoldSome, IsLastFailed}
 use Rattle.study_answers.specs.KeeperWays.{over_keeper}
 use Rattle.study_cli.specs.StudyOutcome.{study_needs, case_of, study_call, study_outcome, IsStudied, IsOpened, MayBeKept, ReadRose, KeeperRose, MayEnd}
 
-module _ (words : List (List ℕ)) (case commands : Option (List ℕ)) (kept held : Option (List Look)) (asked : StudyAsked) (asks : AskStudy words asked)
+module _ (words : List (List ℕ)) (case commands : Option (List ℕ)) (kept held : Option (List Look)) (before now : ℕ) (asked : StudyAsked) (asks : AskStudy words asked)
     (P Q R read_clean keeper_clean : Type 0) where
   -- the ways of the study that is requested
   abbrev Called : Ways Answer
   Called = over_keeper (study_call asked case commands kept) (MayBeKept asked case commands kept)
-      (P ⊎ (IsStudied asked case × Q)) (IsOpened asked case commands × R) read_clean keeper_clean kept held
+      (P ⊎ (IsStudied asked case × Q)) (IsOpened asked case commands × R) read_clean keeper_clean kept held before now
 
   -- the ways of the call with these words
   abbrev Whole : Ways Answer
   Whole = over_keeper (study_outcome words case commands kept) (MayEnd words case commands kept)
-      (ReadRose words case P Q) (KeeperRose words case commands R) read_clean keeper_clean kept held
+      (ReadRose words case P Q) (KeeperRose words case commands R) read_clean keeper_clean kept held before now
 
   rose_by : P ⊎ (IsStudied asked case × Q) → ReadRose words case P Q
   rose_by (inl p) = inl ((asked, asks), p)
@@ -37,11 +37,15 @@ module _ (words : List (List ℕ)) (case commands : Option (List ℕ)) (kept hel
   may_end : HoldSome (MayBeKept asked case commands kept) kept held → HoldSome (MayEnd words case commands kept) kept held
   may_end h = record { more = h.more; may = inr (asked, asks, h.may); held_is = h.held_is }
 
+  failed : HoldSome (λ more. MayBeKept asked case commands kept more × IsLastFailed before now more) kept held
+      → HoldSome (λ more. MayEnd words case commands kept more × IsLastFailed before now more) kept held
+  failed h = record { more = h.more; may = (inr (asked, asks, h.may.0), h.may.1); held_is = h.held_is }
+
   pub asked_ends : (result : Result Answer Stop) → EndsIn Called result → EndsIn Whole result
-  asked_ends (Ok a) h = (record { more = h.0.more; given = (asked, asks, h.0.given); held_is = h.0.held_is }, h.1, h.2)
+  asked_ends (Ok a) h = (record { more = h.0.more; given = (asked, asks, h.0.given); held_is = h.0.held_is; calls_are = h.0.calls_are }, h.1, h.2)
   asked_ends (Err (Refused r)) h = (inr (asked, asks, h.0), h.1, h.2, h.3)
   asked_ends (Err ReadFault) h = (rose_by h.0, h.1, h.2)
-  asked_ends (Err KeeperFault) h = ((asked, asks, h.0.0, h.0.1), may_end h.1, h.2)
+  asked_ends (Err KeeperFault) h = ((asked, asks, h.0.0, h.0.1), failed h.1, h.2)
   asked_ends (Err NoMemory) h = (may_end h.0, h.1, h.2)
 
 awaited_staged : (inputs : Inputs) → IsOfKind Awaited inputs → IsStaged inputs

@@ -13,19 +13,19 @@ use Rattle.answers.proofs.Stopping.{value_stops, source_stops}
 use Rattle.case_model.specs.Content.{Content}
 use Rattle.command_words.specs.Asked.{StudyAsked}
 use Rattle.study_answers.specs.declared.command.StudyCommand.{StudyCommand}
-use Rattle.study_answers.specs.AnswerView.{HoldSome, MayKeep}
+use Rattle.study_answers.specs.AnswerView.{HoldSome, IsLastFailed, MayKeep}
 use Rattle.study_answers.specs.KeeperWays.{over_keeper}
 use Rattle.study_answers.specs.StudyStages.{HasOpening, study_stage, on_looks}
 use Rattle.study_answers.proofs.Looks.{with_none}
 use Rattle.study_cli.specs.StudyOutcome.{case_of, commands_in, commands_of, study_call, IsStudied, IsOpened, MayBeKept}
 
-module _ (asked : StudyAsked) (case commands : Option (List ℕ)) (kept held : Option (List Look))
+module _ (asked : StudyAsked) (case commands : Option (List ℕ)) (kept held : Option (List Look)) (before now : ℕ)
     (case_rose commands_rose keeper_rose case_clean commands_clean keeper_clean : Type 0) where
   -- the ways of the call
   abbrev Called : Ways Answer
   Called = over_keeper (study_call asked case commands kept) (MayBeKept asked case commands kept)
       (case_rose ⊎ (IsStudied asked case × commands_rose)) (IsOpened asked case commands × keeper_rose)
-      (case_clean × commands_clean) keeper_clean kept held
+      (case_clean × commands_clean) keeper_clean kept held before now
 
   -- nothing is kept before the keeper is asked
   none_kept : held ≡ kept → HoldSome (MayBeKept asked case commands kept) kept held
@@ -58,16 +58,20 @@ module _ (asked : StudyAsked) (case commands : Option (List ℕ)) (kept held : O
       (clean : case_clean) (same : commands_clean) where
     -- the ways of the replies
     abbrev Replied : Ways Answer
-    Replied = over_keeper (on_looks kept (study_stage c list)) (MayKeep c list kept) ⊥ (HasOpening c × keeper_rose) ⊤ keeper_clean kept held
+    Replied = over_keeper (on_looks kept (study_stage c list)) (MayKeep c list kept) ⊥ (HasOpening c × keeper_rose) ⊤ keeper_clean kept held before now
 
     -- the looks that may be added by the replies
     may_keep : HoldSome (MayKeep c list kept) kept held → HoldSome (MayBeKept asked case commands kept) kept held
     may_keep h = record { more = h.more; may = inr (c, taken, list, said, h.may); held_is = h.held_is }
 
+    failed : HoldSome (λ more. MayKeep c list kept more × IsLastFailed before now more) kept held
+        → HoldSome (λ more. MayBeKept asked case commands kept more × IsLastFailed before now more) kept held
+    failed h = record { more = h.more; may = (inr (c, taken, list, said, h.may.0), h.may.1); held_is = h.held_is }
+
     pub replies_end : (result : Result Answer Stop) → EndsIn Replied result → EndsIn Called result
     unfolding study_call
-    replies_end (Ok a) h = (record { more = h.0.more; given = (c, taken, (list, said, h.0.given)); held_is = h.0.held_is }, (clean, same), h.2)
+    replies_end (Ok a) h = (record { more = h.0.more; given = (c, taken, (list, said, h.0.given)); held_is = h.0.held_is; calls_are = h.0.calls_are }, (clean, same), h.2)
     replies_end (Err (Refused r)) h = (inr (c, taken, inr (list, said, h.0)), h.1, (clean, same), h.3)
     replies_end (Err ReadFault) h = absurd h.0
-    replies_end (Err KeeperFault) h = (((c, taken, list, said, h.0.0), h.0.1), may_keep h.1, (clean, same))
+    replies_end (Err KeeperFault) h = (((c, taken, list, said, h.0.0), h.0.1), failed h.1, (clean, same))
     replies_end (Err NoMemory) h = (may_keep h.0, (clean, same), h.2)

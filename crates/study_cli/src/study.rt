@@ -77,7 +77,7 @@ fn study_call<S: Source, T: Source, K: Keeper>(
         (IsOpened (study_asked call.now) (S.left case.old) (T.left commands.old) × Rose (K.faults keeper.old) (K.faults keeper.new))
         ((S.faults case.new ≡ S.faults case.old) × (T.faults commands.new ≡ T.faults commands.old))
         (K.faults keeper.new ≡ K.faults keeper.old)
-        (K.looks keeper.old) (K.looks keeper.new)) result }
+        (K.looks keeper.old) (K.looks keeper.new) (K.calls keeper.old) (K.calls keeper.new)) result }
     ensures case_end { OnOk result (IsAtEnd (S.left case.new)) }
     ensures commands_kept { ¬ IsStudied (study_asked call.now) (S.left case.old) → commands.new ≡ commands.old }
     ensures commands_end { OnOk result (IsAtEnd (T.left commands.new)) }
@@ -112,7 +112,7 @@ fn answer<S: Source, T: Source, K: Keeper>(
         (Rose (K.faults keeper.old) (K.faults keeper.new)))
         ((S.faults case.new ≡ S.faults case.old) × (T.faults commands.new ≡ T.faults commands.old))
         (K.faults keeper.new ≡ K.faults keeper.old)
-        (K.looks keeper.old) (K.looks keeper.new)) result }
+        (K.looks keeper.old) (K.looks keeper.new) (K.calls keeper.old) (K.calls keeper.new)) result }
     ensures case_kept { ¬ ReadsCase (map string_bytes words.now) → case.new ≡ case.old }
     ensures case_end { ReadsCase (map string_bytes words.now) → OnOk result (IsAtEnd (S.left case.new)) }
     ensures commands_kept { ¬ ReadsCommands (map string_bytes words.now) (S.left case.old) →
@@ -163,7 +163,7 @@ pub fn run_study<S: Source, T: Source, K: Keeper, W: Sink>(
         (Rose (K.faults keeper.old) (K.faults keeper.new)))
         ((S.faults case.new ≡ S.faults case.old) × (T.faults commands.new ≡ T.faults commands.old))
         (K.faults keeper.new ≡ K.faults keeper.old)
-        (K.looks keeper.old) (K.looks keeper.new))
+        (K.looks keeper.old) (K.looks keeper.new) (K.calls keeper.old) (K.calls keeper.new))
         (Rose (W.faults out.old) (W.faults out.new)) (W.faults out.new ≡ W.faults out.old)
         (W.held out.old) (W.held out.new) (W.calls out.old) (W.calls out.new) result }
     ensures case { Uses S.left (ReadsCase (map string_bytes words.now)) case.old case.new result }

@@ -1,5 +1,5 @@
 -- Faults of registers, from the faults of what they call.
-use Rattle.std.proofs.Common.{◌≡◌, inl, inr, sym, subst, ℕ, ◌+◌, List, [], ◌∷◌, Option, Result, Ok, Err}
+use Rattle.std.proofs.Common.{◌≡◌, refl, ap, ◌∙◌, inl, inr, sym, subst, ℕ, ◌+◌, List, [], ◌∷◌, Option, Result, Ok, Err}
 use Rattle.std.specs.Prelude.{IfSome, IfErr}
 use Rattle.std.specs.Result.{IsErrAnd}
 use Rattle.graph_io.specs.Causes.{Rose}
@@ -9,6 +9,7 @@ use Rattle.graph_io.specs.declared.keeper.KeeperFault.{KeeperFault}
 use Rattle.graph_io.specs.declared.keeper.KeeperFault.TheVariants as keepers
 use Rattle.case_model.specs.Content.{Content}
 use Rattle.entangled.specs.declared.open_fault.OpenFault.{OpenFault}
+use Rattle.entangled.specs.declared.open_fault.OpenFault.TheVariants as openings
 use Rattle.staged_levels.specs.Studies.{StudyState, start}
 use Rattle.staged_levels.specs.StudyContents.{StudyContent, IsStudy}
 use Rattle.staged_levels.specs.Looks.{IsDefined}
@@ -17,7 +18,7 @@ use Rattle.study_register.specs.declared.fault.RegisterFault.{RegisterFault}
 use Rattle.study_register.specs.declared.fault.RegisterFault.TheVariants.{BadLook, Wide, Fault, NoMemory}
 use Rattle.study_register.specs.declared.fault.AddFault.{AddFault}
 use Rattle.study_register.specs.Looking.{Takes}
-use Rattle.study_register.specs.RegisterFaults.{IsFirstStop, IsStopped, IsRegisterFault, IsAddFault, IfLooksRefused, IfMemory, Leaves}
+use Rattle.study_register.specs.RegisterFaults.{IsFirstStop, IsStopped, IsRegisterFault, IsAddFault, IfLooksRefused, IfAsked, IfMemory, Leaves, turns_by}
 use Rattle.study_register.specs.RegisterView.{of_opening, of_loading, of_appending}
 
 -- a fault that is handed on
@@ -70,6 +71,18 @@ pub loading_steady : (before now : ℕ) (why : KeeperFault) → CausedBy before 
 loading_steady before now keepers.Fault h = tt
 loading_steady before now keepers.NoMemory h = h
 
+-- a fact, also where the keeper was asked
+pub asked_too : (p : Type 0) (why : RegisterFault) → p → IfAsked p why
+asked_too p (BadLook n l) h = h
+asked_too p (Wide n w) h = tt
+asked_too p Fault h = h
+asked_too p NoMemory h = tt
+
+-- no opening of a case is a fault of the keeper
+pub opening_asked : (p : Type 0) (why : OpenFault) → IfAsked p (of_opening why)
+opening_asked p (openings.Wide w) = tt
+opening_asked p openings.NoMemory = tt
+
 -- where an opening refuses, the keeper isn't asked
 pub opening_steady : (p : Type 0) (why : OpenFault) → p → IfLooksRefused p (of_opening why)
 opening_steady p why h = refused_too p (of_opening why) h
@@ -82,6 +95,14 @@ appended_memory before now keepers.NoMemory h = h
 pub appending_memory : (before now : ℕ) (why : KeeperFault) (end : AddFault) → end ≡ of_appending why → CausedBy before now why
     → IfMemory (now ≡ before) end
 appending_memory before now why end e h = subst (IfMemory (now ≡ before)) (sym e) (appended_memory before now why h)
+
+-- an appending that refuses was called
+appended_turns : (why : KeeperFault) → turns_by (of_appending why) ≡ 1
+appended_turns keepers.Fault = refl
+appended_turns keepers.NoMemory = refl
+
+pub appending_turns : (why : KeeperFault) (end : AddFault) → end ≡ of_appending why → turns_by end ≡ 1
+appending_turns why end e = ap turns_by e ∙ appended_turns why
 
 -- where an appending refuses, the look is taken
 appended_leaves : (c : Content) (s t : StudyState) (l : Look) (why : KeeperFault) → Takes c s l t → Leaves c s l t (of_appending why)

@@ -91,6 +91,13 @@ IfLooksRefused p (Wide n w) = p
 IfLooksRefused p Fault = Unit {0}
 IfLooksRefused p NoMemory = p
 
+-- a fact if the fault comes only after the keeper was asked
+abbrev pub IfAsked : Type 0 → RegisterFault → Type 0
+IfAsked p (BadLook n l) = p
+IfAsked p (Wide n w) = Unit {0}
+IfAsked p Fault = p
+IfAsked p NoMemory = Unit {0}
+
 -- a fact if the arrival was refused
 abbrev pub IfNotTaken : Type 0 → TakeFault → Type 0
 IfNotTaken p (takings.Refused f) = p
@@ -116,6 +123,18 @@ IfMemory p (additions.Refused f) = Unit {0}
 IfMemory p (additions.Wide w) = Unit {0}
 IfMemory p additions.Fault = Unit {0}
 IfMemory p additions.NoMemory = p
+
+-- how many calls of the keeper an addition makes that is refused: none, unless the look can be taken
+abbrev pub turns_by : AddFault → ℕ
+turns_by (additions.Refused f) = 0
+turns_by (additions.Wide w) = 0
+turns_by additions.Fault = 1
+turns_by additions.NoMemory = 1
+
+-- how many calls of the keeper an addition makes
+abbrev pub turns_of : {A : Type 0} → Result A AddFault → ℕ
+turns_of (Ok x) = 1
+turns_of (Err why) = turns_by why
 
 -- whether a register is spent by a refusal
 abbrev pub spent_by : AddFault → Bool

@@ -12,11 +12,13 @@ ghost use Rattle.study_register.specs.RegisterFaults.{
   IsRegisterFault,
   IsAddFault,
   IfLooksRefused,
+  IfAsked,
   IfRefused,
   IfNotAsked,
   IfMemory,
   Leaves,
   spent_after,
+  turns_of,
 };
 
 use crate::taking::{TakeFault, follow, take};
@@ -51,7 +53,8 @@ impl Register {
     /// undefined. Else the first look that can't be taken is named. It is `RegisterFault::BadLook` exactly if that look names
     /// no hypothesis of the case or its arrival is refused. It is `RegisterFault::Wide` exactly if its settling stops part way.
     /// Places count from 1. It is `RegisterFault::Fault` only if the case was opened and the keeper's count of faults rose in
-    /// this call; with each other answer that count stays. The keeper is called once at most.
+    /// this call; with each other answer that count stays. The keeper is called once at most, and once if the register is opened,
+    /// a look can't be taken for its arrival, or the keeper fails.
     pub fn open<K: Keeper>(
         alloc: Global,
         case: &Case,
@@ -68,6 +71,8 @@ impl Register {
         ensures counted { OnOk result (K.faults keeper.new ≡ K.faults keeper.old) }
         ensures steady { IfErr result (IfLooksRefused (K.faults keeper.new ≡ K.faults keeper.old)) }
         ensures turns { K.calls keeper.new ≤ K.calls keeper.old + 1 }
+        ensures loaded { OnOk result (K.calls keeper.new ≡ K.calls keeper.old + 1) }
+        ensures asked { IfErr result (IfAsked (K.calls keeper.new ≡ K.calls keeper.old + 1)) }
     {
         let mut study = Study::open(alloc, case)?;
         let mut looks = List::new(alloc);
@@ -151,7 +156,7 @@ impl Register {
         ensures size { size_of (study_in self.new) ≡ size_of (study_in self.old) }
         ensures later { K.faults keeper.old ≤ K.faults keeper.new }
         ensures counted { OnOk result (K.faults keeper.new ≡ K.faults keeper.old) }
-        ensures turns { K.calls keeper.new ≤ K.calls keeper.old + 1 }
+        ensures turns { K.calls keeper.new ≡ K.calls keeper.old + turns_of result }
     {
         match take(&mut self.study, look) {
             Ok(()) => (),

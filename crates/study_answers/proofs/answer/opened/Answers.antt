@@ -4,7 +4,7 @@ use Rattle.answers.proofs.Stopping.{handed_on}
 use Rattle.case_model.specs.CaseView.{content}
 use Rattle.refusals.specs.WideRefusal.{wide_refusal}
 use Rattle.refusals.specs.declared.wide.When.TheVariants.{Look as AfterLook}
-use Rattle.study_answers.proofs.Answering.{bad_look_told, wide_look_told, clean_by_look, clean_by_wide, clean_by_memory, rose_by}
+use Rattle.study_answers.proofs.Answering.{bad_look_told, wide_look_told, clean_by_look, clean_by_wide, clean_by_memory, rose_by, asked_by}
 use Rattle.study_answers.proofs.answer.opened.Goals as goal
 
 pub returns-in_ok-record_refusal-in-Err-BadLook-clause-ends : goal.returns-in_ok-record_refusal-in-Err-BadLook-clause-ends
@@ -28,8 +28,9 @@ returns-in_ok-wide_refusal-in-Err-Wide-clause-ends g c =
 pub returns-in-Err-Fault-clause-ends : goal.returns-in-Err-Fault-clause-ends
 returns-in-Err-Fault-clause-ends g c =
     let e = c.in-Err-Fault in
-    rose_by (content c.args.case.now) (g.K.Keeper.looks c.args.keeper.now)
-    (Rose (g.K.Keeper.faults c.args.keeper.now) (g.K.Keeper.faults c.open.new.keeper)) e.field-0 e.field-0-is e.ensures.fault
+    let rose = rose_by (content c.args.case.now) (g.K.Keeper.looks c.args.keeper.now)
+    (Rose (g.K.Keeper.faults c.args.keeper.now) (g.K.Keeper.faults c.open.new.keeper)) e.field-0 e.field-0-is e.ensures.fault in
+    (rose.0, (rose.1, asked_by _ e.field-0 e.field-0-is e.ensures.asked))
 
 pub returns-in_err-record_refusal-in-Err-BadLook-clause-ends : goal.returns-in_err-record_refusal-in-Err-BadLook-clause-ends
 returns-in_err-record_refusal-in-Err-BadLook-clause-ends g c =

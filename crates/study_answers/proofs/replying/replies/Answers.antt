@@ -21,9 +21,10 @@ loop-i-preserved g c =
     let looks = g.K.Keeper.looks in
     let at = c.index-commands-i.result in
     record {
-      far = one_more k (looks_in c.args.register.now) commands (looks c.args.keeper.now) c.args.text.now (l.i + 1) (looks_in l.register)
+      far = one_more k (looks_in c.args.register.now) commands (looks c.args.keeper.now) (g.K.Keeper.calls c.args.keeper.now) c.args.text.now (l.i + 1)
+          (looks_in l.register)
           (looks_in c.reply.new.register) (drop l.i commands) (drop (l.i + 1) commands) at
-          (looks l.keeper) (looks c.reply.new.keeper) l.text c.reply.new.text
+          (looks l.keeper) (looks c.reply.new.keeper) (g.K.Keeper.calls l.keeper) (g.K.Keeper.calls c.reply.new.keeper) l.text c.reply.new.text
           (next_command commands l.i at c.loop-i-test.true c.index-commands-i.is) c.in_default.ensures.replied l.invariant.far;
       study = c.reply.ensures.study;
       fresh = c.in_default.ensures.fresh;
@@ -41,16 +42,18 @@ returns-in-Err-clause-stopped g c =
     let at = c.index-commands-i.result in
     let now = g.K.Keeper.faults c.reply.new.keeper in
     let rose = Rose (g.K.Keeper.faults c.args.keeper.now) now in
-    let stop = subst (λ n. StopsCommands k (Rose n now) (l.i + 1) (looks_in l.register) (at ∷ []) (looks l.keeper) (looks c.reply.new.keeper) c.in-Err.stop)
+    let stop = subst (λ n. StopsCommands k (Rose n now) (l.i + 1) (looks_in l.register) (at ∷ []) (looks l.keeper) (looks c.reply.new.keeper)
+    (g.K.Keeper.calls l.keeper) (g.K.Keeper.calls c.reply.new.keeper) c.in-Err.stop)
     l.invariant.same c.in-Err.ensures.stopped in
-    stops_on k (looks_in c.args.register.now) commands (looks c.args.keeper.now) c.args.text.now rose (l.i + 1) (looks_in l.register) (drop l.i commands)
+    stops_on k (looks_in c.args.register.now) commands (looks c.args.keeper.now) (g.K.Keeper.calls c.args.keeper.now) c.args.text.now rose (l.i + 1) (looks_in l.register) (drop l.i commands)
     (drop (l.i + 1) commands) at
-    (looks l.keeper) (looks c.reply.new.keeper) l.text c.in-Err.stop
+    (looks l.keeper) (looks c.reply.new.keeper) (g.K.Keeper.calls l.keeper) (g.K.Keeper.calls c.reply.new.keeper) l.text c.in-Err.stop
     (next_command commands l.i at c.loop-i-test.true c.index-commands-i.is) l.invariant.far stop
 
 pub loop-i-init : goal.loop-i-init
 loop-i-init g c = record {
-  far = begun (content c.args.case.now) (looks_in c.args.register.now) c.args.commands.now (g.K.Keeper.looks c.args.keeper.now) c.args.text.now;
+  far = begun (content c.args.case.now) (looks_in c.args.register.now) c.args.commands.now (g.K.Keeper.looks c.args.keeper.now)
+      (g.K.Keeper.calls c.args.keeper.now) c.args.text.now;
   study = c.requires.study;
   fresh = c.requires.fresh;
   same = refl;
@@ -80,6 +83,6 @@ returns-clause-replied g c =
     let l = c.loop-i in
     let commands = c.args.commands.now in
     let end : length commands ≤ l.i = search rules in
-    all_replied (content c.args.case.now) (looks_in c.args.register.now) commands (g.K.Keeper.looks c.args.keeper.now) c.args.text.now (l.i + 1)
-    (looks_in l.register) (drop l.i commands) (g.K.Keeper.looks l.keeper) l.text
+    all_replied (content c.args.case.now) (looks_in c.args.register.now) commands (g.K.Keeper.looks c.args.keeper.now) (g.K.Keeper.calls c.args.keeper.now)
+    c.args.text.now (l.i + 1) (looks_in l.register) (drop l.i commands) (g.K.Keeper.looks l.keeper) (g.K.Keeper.calls l.keeper) l.text
     (drop_all l.i commands end) l.invariant.far

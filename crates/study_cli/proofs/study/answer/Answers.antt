@@ -14,7 +14,7 @@ returns-in_err-usage-in-Err-clause-ends g c =
 pub returns-in-Ok-clause-ends : goal.returns-in-Ok-clause-ends
 returns-in-Ok-clause-ends g c =
     asked_ends (map string_bytes c.args.words.now) (g.S.Source.left c.args.case.now) (g.T.Source.left c.args.commands.now)
-    (g.K.Keeper.looks c.args.keeper.now) _ (study_asked c.in-Ok.call) (sym c.in-Ok.ensures) _ _ _ _ _ c.study_call.result c.study_call.ensures.ends
+    (g.K.Keeper.looks c.args.keeper.now) _ _ _ (study_asked c.in-Ok.call) (sym c.in-Ok.ensures) _ _ _ _ _ c.study_call.result c.study_call.ensures.ends
 
 pub returns-in-Ok-clause-case_kept : goal.returns-in-Ok-clause-case_kept
 returns-in-Ok-clause-case_kept g c = λ none. absurd (none (study_asked c.in-Ok.call, (sym c.in-Ok.ensures)))

@@ -10,7 +10,7 @@ pub returns-in_err-accepted-clause-ends : goal.returns-in_err-accepted-clause-en
 returns-in_err-accepted-clause-ends g c =
     handed_on _ _ _ c.from_residual.ensures.1
     (case_stops (study_asked c.args.call.now) (g.S.Source.left c.args.case.now) (g.T.Source.left c.args.commands.now) (g.K.Keeper.looks c.args.keeper.now)
-    (g.K.Keeper.looks c.args.keeper.now) _ _ _ _ _ _ c.in_err-accepted.field-0.0
+    (g.K.Keeper.looks c.args.keeper.now) _ _ _ _ _ _ _ _ c.in_err-accepted.field-0.0
     refl refl refl (rw c.study_needs.ensures at c.in_err-accepted.ensures.ends))
 
 pub returns-in_err-bytes-clause-ends : goal.returns-in_err-bytes-clause-ends
@@ -18,7 +18,7 @@ returns-in_err-bytes-clause-ends g c =
     let accepted = rw c.study_needs.ensures at c.in_ok-accepted.ensures.ends in
     handed_on _ _ _ c.from_residual-in_err-bytes.ensures.1
     (bytes_stop (study_asked c.args.call.now) (g.S.Source.left c.args.case.now) (g.T.Source.left c.args.commands.now) (g.K.Keeper.looks c.args.keeper.now)
-    (g.K.Keeper.looks c.args.keeper.now) _ _ _ _ _ _ (content c.in_ok-accepted.accepted) accepted.0 accepted.1 refl
+    (g.K.Keeper.looks c.args.keeper.now) _ _ _ _ _ _ _ _ (content c.in_ok-accepted.accepted) accepted.0 accepted.1 refl
     c.in_err-bytes.field-0.0 refl c.in_err-bytes.ensures.ends)
 
 pub returns-in_err-list-clause-ends : goal.returns-in_err-list-clause-ends
@@ -27,7 +27,7 @@ returns-in_err-list-clause-ends g c =
     let bytes = c.in_ok-bytes.ensures.ends in
     handed_on _ _ _ c.from_residual-in_err-list.ensures.1
     (commands_stop (study_asked c.args.call.now) (g.S.Source.left c.args.case.now) (g.T.Source.left c.args.commands.now) (g.K.Keeper.looks c.args.keeper.now)
-    (g.K.Keeper.looks c.args.keeper.now) _ _ _ _ _ _ (content c.in_ok-accepted.accepted) accepted.0 accepted.1 refl
+    (g.K.Keeper.looks c.args.keeper.now) _ _ _ _ _ _ _ _ (content c.in_ok-accepted.accepted) accepted.0 accepted.1 refl
     c.in_ok-bytes.bytes bytes.0 bytes.1 c.in_err-list.field-0.0 refl (rw c.as_slice.ensures at c.in_err-list.ensures.ends))
 
 pub study_answer-requires-clause-staged : goal.study_answer-requires-clause-staged
@@ -41,7 +41,7 @@ returns-clause-ends g c =
     let bytes = c.in_ok-bytes.ensures.ends in
     let said = rw c.as_slice.ensures at c.in_ok-list.ensures.ends in
     replies_end (study_asked c.args.call.now) (g.S.Source.left c.args.case.now) (g.T.Source.left c.args.commands.now)
-    (g.K.Keeper.looks c.args.keeper.now) _ _ _ _ _ _ _ (content c.in_ok-accepted.accepted) accepted.0
+    (g.K.Keeper.looks c.args.keeper.now) _ _ _ _ _ _ _ _ _ (content c.in_ok-accepted.accepted) accepted.0
     c.in_ok-list.list (c.in_ok-bytes.bytes, bytes.0, said) accepted.1 bytes.1 c.study_answer.result
     (rw c.as_slice-2.ensures at c.study_answer.ensures.ends)
 
