@@ -627,12 +627,12 @@ class Library(Room):
         """Whether the library is built once, and again if a source of it, or one of its files, is another one."""
         self.assertEqual([self.builds(), self.builds()], [1, 1])
         for number, name in enumerate(("crates/welungad_c/src/lib.rt", "c/calls.c", "c/welungad.h", "VERSION"), 2):
-            text = "0.2.0\n" if name == "VERSION" else content(name) + "\n" if name.startswith("c/") else "more\n"
+            text = "9.9.9\n" if name == "VERSION" else content(name) + "\n" if name.startswith("c/") else "more\n"
             self.write(name, text)
             self.assertEqual(self.builds(), number - 1)
             self.commit()
             self.assertEqual([self.builds(), self.builds()], [number, number])
-        self.assertEqual(sorted(os.listdir(self.out()))[2:], ["libwelungad.so", "libwelungad.so.0.2.0", "libwelungad.so.1", "stamp"])
+        self.assertEqual(sorted(os.listdir(self.out()))[2:], ["libwelungad.so", "libwelungad.so.9.9.9", "libwelungad.so.1", "stamp"])
         for number, name in enumerate(("libwelungad.a", "libwelungad.so", "stamp"), 6):
             with open(self.out(name), "ab") as file:
                 file.write(b"built edited\n")
