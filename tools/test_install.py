@@ -632,7 +632,7 @@ class Library(Room):
             self.assertEqual(self.builds(), number - 1)
             self.commit()
             self.assertEqual([self.builds(), self.builds()], [number, number])
-        self.assertEqual(sorted(os.listdir(self.out()))[2:], ["libwelungad.so", "libwelungad.so.9.9.9", "libwelungad.so.1", "stamp"])
+        self.assertEqual(sorted(os.listdir(self.out()))[2:], ["libwelungad.so", "libwelungad.so.1", "libwelungad.so.9.9.9", "stamp"])
         for number, name in enumerate(("libwelungad.a", "libwelungad.so", "stamp"), 6):
             with open(self.out(name), "ab") as file:
                 file.write(b"built edited\n")
@@ -904,12 +904,15 @@ class Release(unittest.TestCase):
                 self.assertEqual(found, release)
 
     def test_licence(self):
-        """Whether both licences are there, and R's file has the two lines that R asks for."""
+        """Whether both licences are there, each package is under both, and R's file has the two lines that R asks for."""
         self.assertIn("SPDX-License-Identifier: MIT OR Apache-2.0\n", content("LICENSE"))
         self.assertTrue(content("LICENSE-MIT").startswith("MIT License\n"))
         self.assertIn("Version 2.0, January 2004", content("LICENSE-APACHE"))
         self.assertRegex(content("r", "LICENSE"), r"\AYEAR: \d{4}\nCOPYRIGHT HOLDER: .+\n\Z")
-        for name in ("LICENSE", "LICENSE-MIT", "r/LICENSE"):
+        self.assertIn("\nLicense: MIT + file LICENSE | Apache License 2.0\n", content("r", "DESCRIPTION"))
+        for name in glob.glob(os.path.join(TOP, "python", "pyproject.toml")):
+            self.assertIn('license = {text = "MIT OR Apache-2.0"}', content(name))
+        for name in ("LICENSE", "LICENSE-MIT", "r/LICENSE", "r/DESCRIPTION", "CITATION.cff"):
             self.assertIn("Welungad maintainers", content(name))
 
     def test_looks_of_another_case(self):
