@@ -32,7 +32,7 @@ extern "C" {
  * parameter, a status or the meaning of a call changes. */
 uint32_t welungad_interface(void);
 
-/* Returns the release that the library was built from, such as "0.1.0". The text belongs to the library. */
+/* Returns the release that the library was built from, such as "1.2.3". The text belongs to the library. */
 const char *welungad_version(void);
 
 enum {

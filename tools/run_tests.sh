@@ -13,10 +13,10 @@ skip() {
 
 command -v python3 >/dev/null || skip python3
 missing=
-for name in git man cc objcopy pkg-config valgrind; do
+for name in git man cc objcopy pkg-config valgrind shellcheck; do
     command -v "$name" >/dev/null || missing="${missing:+$missing, }$name"
 done
 [ -x ../crates/welungad/out/welungad ] || missing="${missing:+$missing, }the built program"
 [ -f ../c/out/stamp ] || missing="${missing:+$missing, }the built C library"
-PYTHONDONTWRITEBYTECODE=1 python3 -m unittest test_tools test_install
+PYTHONDONTWRITEBYTECODE=1 python3 -m unittest discover -p "test_*.py"
 [ -z "$missing" ] || skip "$missing" " in part"

@@ -71,8 +71,8 @@ int main(void) {
 """
 
 # The files of the checkout that a test has, and some that an installation has or leaves out.
-SCRIPTS = ("welungad", "install", "uninstall", "unproved", "tools/stamps.sh", "c/build.sh", "r/configure", ".ci/run", "bench/kept.py")
-AS_HERE = ("VERSION", "c/calls.c", "c/proved.names", "c/welungad.h", "c/welungad.map", "c/examples/decide.c", "docs/welungad.1")
+SCRIPTS = "welungad install uninstall unproved tools/stamps.sh c/build.sh r/configure .ci/run bench/kept.py".split()
+AS_HERE = "VERSION c/calls.c c/proved.names c/welungad.h c/welungad.map c/examples/decide.c docs/welungad.1".split()
 INSTALLED = (
     "README.md CHANGES.md LICENSE LICENSE-MIT LICENSE-APACHE CITATION.cff docs/FORMATS.md docs/pictures/holm.svg examples/holm.txt "
     "tools/draw.py c/README.md python/README.md python/pyproject.toml python/welungad/__init__.py python/welungad/py.typed "
@@ -82,7 +82,9 @@ LEFT_OUT = (
     "tools/test_tools.py tools/run_tests.sh c/test.sh c/test_calls.c python/tests/test_a.py python/test_a.py python/run_tests.sh "
     "python/acceptance_rows.py r/tests/testthat.R r/tests/testthat/test-a.R r/run_tests.sh r/.gitignore bench/README.md"
 ).split()
-BUILT = "python/.mypy_cache/a r/src/a.o r/src/a.so r/src/Makevars python/welungad/__pycache__/a.pyc python/welungad.egg-info/PKG-INFO".split()
+BUILT = (
+    "python/.mypy_cache/a r/src/a.o r/src/a.so r/src/Makevars python/welungad/__pycache__/a.pyc python/welungad.egg-info/PKG-INFO"
+).split()
 
 
 def content(*path):
@@ -107,15 +109,16 @@ def snapshot(folder):
     return found
 
 
-def is_in_the_way(path):
-    """Returns an environment in which the program of this name comes first, from the folder of a path."""
-    return f"{path}:{os.environ['PATH']}"
+def path_with(folder):
+    """Returns the path on which the programs of a folder come first."""
+    return f"{folder}:{os.environ['PATH']}"
 
 
 class Room(unittest.TestCase):
     """A checkout with the scripts, a few sources and a stand-in for rt, not committed yet."""
 
     def setUp(self):
+        self.addCleanup(os.umask, os.umask(0o022))
         room = tempfile.TemporaryDirectory(prefix="a room ")
         self.addCleanup(room.cleanup)
         os.chmod(room.name, 0o755)
@@ -132,8 +135,9 @@ class Room(unittest.TestCase):
         self.write("../kit/bin/rt", RT, 0o755)
         self.write("../kit/bin/stub.c", STUB)
         self.write("../kit/c/liblibc_c.a", "!<arch>\n")
-        self.environment = {**os.environ, "GIT_CONFIG_GLOBAL": "/dev/null", "GIT_CONFIG_SYSTEM": "/dev/null"}
-        self.environment["PATH"] = is_in_the_way(os.path.join(self.room, "kit", "bin"))
+        self.environment = {name: value for name, value in os.environ.items() if not name.startswith("GIT_")}
+        self.environment.update(GIT_CONFIG_GLOBAL="/dev/null", GIT_CONFIG_SYSTEM="/dev/null")
+        self.environment["PATH"] = path_with(os.path.join(self.room, "kit", "bin"))
         for name in ("DESTDIR", "CDPATH", "WELUNGAD_PREFIX", "WELUNGAD_INCLUDE", "WELUNGAD_LIB"):
             self.environment.pop(name, None)
 
@@ -149,7 +153,7 @@ class Room(unittest.TestCase):
         os.chmod(path, mode)
 
     def call(self, words, given="", where="/", user=None, **more):
-        """Returns the status, the output and the errors of a command. A script that says something says it in a line."""
+        """Returns the status, the output and the errors of a command."""
         as_user = {"user": user, "group": user, "extra_groups": []} if user is not None else {}
         environment = {**self.environment, **more}
         done = subprocess.run(words, input=given, capture_output=True, text=True, env=environment, cwd=where, **as_user)
@@ -158,9 +162,14 @@ class Room(unittest.TestCase):
     def run_script(self, name, *words, **how):
         return self.call([os.path.join(self.top, name), *words], **how)
 
+    def git(self, *words, top=None):
+        subprocess.run(["git", *words], cwd=top or self.top, check=True, env=self.environment)
+
     def commit(self, top=None):
-        for words in (["init", "-q"], ["add", "-A"], ["-c", "user.name=a", "-c", "user.email=a@b", "commit", "-qm", "a"]):
-            subprocess.run(["git", *words], cwd=top or self.top, check=True, env=self.environment)
+        """Commits all files of a folder, in a repository of its own."""
+        self.git("init", "-q", top=top)
+        self.git("add", "-A", top=top)
+        self.git("-c", "user.name=a", "-c", "user.email=a@b", "commit", "-qm", "a", top=top)
 
     def build(self):
         """Commits, and builds the program."""
@@ -174,7 +183,11 @@ class Room(unittest.TestCase):
         self.make_stamp()
 
     def make_stamp(self):
-        made = 'cd "$top" && . tools/stamps.sh && now=$(sources $library_sources) && stamp_of "$now" "$now" c/out/libwelungad.so c/out/libwelungad.a'
+        """Writes the stamp of the library that is there."""
+        made = """
+            cd "$top" && . tools/stamps.sh && now=$(sources $library_sources) &&
+                stamp_of "$now" "$now" c/out/libwelungad.so c/out/libwelungad.a
+        """
         status, stamp, errors = self.call(["sh", "-c", made], top=self.top, script="test")
         self.assertEqual((status, errors), (0, ""))
         self.write("c/out/stamp", stamp)
@@ -229,7 +242,7 @@ class Program(Room):
         """Whether an edit during the build is found."""
         self.commit()
         self.assertEqual(self.run_script("welungad", EDIT="yes")[:2], (0, "1 0\n"))
-        subprocess.run(["git", "checkout", "-q", "."], cwd=self.top, check=True)
+        self.git("checkout", "-q", ".")
         self.assertEqual(self.run_script("welungad")[:2], (0, "2 0\n"))
 
     def test_link(self):
@@ -253,7 +266,7 @@ class Program(Room):
             self.commit(self.room)
         with open(self.path(".gitignore"), "w", encoding="utf-8") as file:
             file.write("the top\n")
-        subprocess.run(["git", "rm", "-rq", "--cached", "the top"], cwd=self.room, check=True)
+        self.git("rm", "-rq", "--cached", "the top", top=self.room)
         self.commit(self.room)
         for count in (3, 4):
             self.assertEqual(self.run_script("welungad")[:2], (0, f"{count} 0\n"))
@@ -284,7 +297,7 @@ class Program(Room):
         """Whether the repository that a hook names is not taken for that of the checkout."""
         self.build()
         other = self.path("other")
-        subprocess.run(["git", "init", "-q", other], check=True)
+        self.git("init", "-q", other)
         self.assertEqual(self.run_script("welungad", GIT_DIR=os.path.join(other, ".git"), GIT_WORK_TREE=other), (0, "1 0\n", ""))
 
     def test_reading_alone(self):
@@ -331,7 +344,8 @@ class Unproved(Room):
         for name in ("holm", "text", "check", "commands"):
             self.write(f"../here/{name}", "")
         where = self.path("here")
-        self.assertEqual(self.run_script("unproved", "catalogue", "holm", "--size", "3", where=where)[1], "[try]\n[--]\n[catalogue]\n[holm]\n[--size]\n[3]\n")
+        words = self.run_script("unproved", "catalogue", "holm", "--size", "3", where=where)[1]
+        self.assertEqual(words, "[try]\n[--]\n[catalogue]\n[holm]\n[--size]\n[3]\n")
         words = self.run_script("unproved", "study", "--form", "text", "commands", "text", where=where)[1].split("\n")
         self.assertEqual(words[1:3], ["[--data]", f"[file-3={where}/commands]"])
         self.assertEqual(words[3:9], ["[--]", "[study]", "[--form]", "[text]", "[file-3]", "[text]"])
@@ -398,8 +412,9 @@ class Install(Room):
             done = self.call(["sha256sum", os.path.join(self.prefix, name)])
             self.assertIn(f"sha256 {os.path.basename(name)} {done[1].split()[0]}", lines)
         head = self.call(["git", "rev-parse", "HEAD"], where=self.top)[1].strip()
-        for line in (f"release {content('VERSION').strip()}", f"checkout {head}", f"commit {head}", f"library commit {head}", "kit a-kit logic 1"):
+        for line in (f"checkout {head}", f"commit {head}", f"library commit {head}", "kit a-kit logic 1"):
             self.assertIn(line, lines)
+        self.assertEqual(lines[0], f"release {content('VERSION').strip()}")
         self.write("docs/FORMATS.md", "edited\n")
         self.install()
         with open(os.path.join(self.prefix, "share", "welungad", "identity"), encoding="utf-8") as file:
@@ -412,7 +427,7 @@ class Install(Room):
         self.is_refused(self.run_script("install", self.prefix), "not the program that was proved", "other sources")
         self.run_script("welungad")
         self.write("crates/welungad/out/welungad", "#!/bin/sh\n", 0o755)
-        self.is_refused(self.run_script("install", self.prefix), "not the program that was proved", "welungad is not the file that was built")
+        self.is_refused(self.run_script("install", self.prefix), "not the program that was proved", "not the file that was built")
         self.assertFalse(os.path.exists(self.prefix))
 
     def test_another_library(self):
@@ -421,7 +436,8 @@ class Install(Room):
         with open(stamp, encoding="utf-8") as file:
             text = file.read()
         self.write("c/out/libwelungad.a", "garbage")
-        self.is_refused(self.run_script("install", self.prefix), "not the one that was proved", "libwelungad.a is not the file", "c/build.sh --force")
+        done = self.run_script("install", self.prefix)
+        self.is_refused(done, "not the one that was proved", "libwelungad.a is not the file", "c/build.sh --force")
         self.write("c/out/stamp", "edited\n")
         self.is_refused(self.run_script("install", self.prefix), "not the one that was proved")
         self.make_library()
@@ -454,6 +470,9 @@ class Install(Room):
 
     def test_umask(self):
         """Whether everybody can read what is installed under a umask that forbids it, and run the program."""
+        for name, (mode, held) in snapshot(self.top).items():
+            if held is not None and not name.startswith(".git/"):
+                os.chmod(os.path.join(self.top, name), mode & 0o700)
         shell = 'umask 077 && exec "$0" "$1"'
         self.assertEqual(self.call(["sh", "-c", shell, os.path.join(self.top, "install"), self.prefix])[0], 0)
         for name, (mode, held) in snapshot(self.prefix).items():
@@ -608,12 +627,12 @@ class Library(Room):
         """Whether the library is built once, and again if a source of it, or one of its files, is another one."""
         self.assertEqual([self.builds(), self.builds()], [1, 1])
         for number, name in enumerate(("crates/welungad_c/src/lib.rt", "c/calls.c", "c/welungad.h", "VERSION"), 2):
-            text = "0.2.0\n" if name == "VERSION" else content(name) + "\n" if name.startswith("c/") else "more\n"
+            text = "9.9.9\n" if name == "VERSION" else content(name) + "\n" if name.startswith("c/") else "more\n"
             self.write(name, text)
             self.assertEqual(self.builds(), number - 1)
             self.commit()
             self.assertEqual([self.builds(), self.builds()], [number, number])
-        self.assertEqual(sorted(name for name in os.listdir(self.out()) if "so" in name), ["libwelungad.so", "libwelungad.so.0.2.0", "libwelungad.so.1"])
+        self.assertEqual(sorted(os.listdir(self.out()))[2:], ["libwelungad.so", "libwelungad.so.1", "libwelungad.so.9.9.9", "stamp"])
         for number, name in enumerate(("libwelungad.a", "libwelungad.so", "stamp"), 6):
             with open(self.out(name), "ab") as file:
                 file.write(b"built edited\n")
@@ -628,7 +647,8 @@ class Library(Room):
             names = re.findall(r" [A-Z] (\S+)", self.call(["nm", "--defined-only", *words])[1])
             self.assertEqual(sorted(names), ["welungad_interface", "welungad_run", "welungad_version"])
         self.assertIn("[libwelungad.so.1]", self.call(["readelf", "-d", self.out("libwelungad.so")])[1])
-        self.assertEqual([os.readlink(self.out("libwelungad.so")), os.readlink(self.out("libwelungad.so.1"))], ["libwelungad.so.1", f"libwelungad.so.{content('VERSION').strip()}"])
+        self.assertEqual(os.readlink(self.out("libwelungad.so")), "libwelungad.so.1")
+        self.assertEqual(os.readlink(self.out("libwelungad.so.1")), f"libwelungad.so.{content('VERSION').strip()}")
         self.write("caller.c", CALLER)
         caller = self.path("caller")
         done = self.call(["cc", f"-I{self.top}/c", "-o", caller, f"{self.top}/caller.c", self.out("libwelungad.a")])
@@ -637,7 +657,7 @@ class Library(Room):
 
     @unittest.skipUnless(shutil.which("pkg-config"), "pkg-config is missing")
     def test_pkg_config(self):
-        """Whether the words of pkg-config compile a caller outside the checkout, for a prefix with blanks, and the caller finds its library."""
+        """Whether the words of pkg-config compile a caller outside the checkout, for a prefix with blanks, and it finds its library."""
         self.builds()
         self.run_script("welungad")
         prefix = self.path("a prefix")
@@ -655,7 +675,10 @@ class Library(Room):
 
 def finding():
     """Returns why c/out of this checkout hasn't the library that was proved, or nothing."""
-    script = 'top=$1 script=test && . "$top/tools/stamps.sh" && finding c/out/stamp "$(trees $library_sources)" c/out/libwelungad.so c/out/libwelungad.a'
+    script = """
+        top=$1 script=test && . "$top/tools/stamps.sh" &&
+            finding c/out/stamp "$(trees $library_sources)" c/out/libwelungad.so c/out/libwelungad.a
+    """
     return subprocess.run(["sh", "-c", script, "sh", TOP], capture_output=True, text=True, cwd=TOP).stdout
 
 
@@ -665,7 +688,7 @@ def finding():
 @unittest.skipUnless(shutil.which("pkg-config") and shutil.which("valgrind"), "pkg-config or valgrind is missing")
 class Example(Room):
     def test_example(self):
-        """Whether the installed example, compiled outside the checkout by the words of pkg-config, decides a case, and valgrind finds nothing."""
+        """Whether the installed example, compiled outside the checkout, decides a case, and valgrind finds nothing."""
         self.build()
         self.make_library()
         for name in ("libwelungad.a", "libwelungad.so"):
@@ -805,7 +828,8 @@ class Gate(Room):
         status, printed, _ = self.run_script(".ci/run")
         self.assertEqual(status, 0)
         count = len(self.checks) - 1
-        self.assertIn(f"\nbeside: {count} passed, 1 skipped, 0 failed\nskipped: c/run_tests.sh: c: skipped, since valgrind is missing\n", printed)
+        self.assertIn(f"\nbeside: {count} passed, 1 skipped, 0 failed\n", printed)
+        self.assertTrue(printed.endswith("\nskipped: c/run_tests.sh: c: skipped, since valgrind is missing\n"))
         self.write("tools/run_tests.sh", "#!/bin/sh\nexit 3\n", 0o755)
         status, printed, _ = self.run_script(".ci/run")
         self.assertEqual(status, 1)
@@ -880,12 +904,15 @@ class Release(unittest.TestCase):
                 self.assertEqual(found, release)
 
     def test_licence(self):
-        """Whether both licences are there, and R's file has the two lines that R asks for."""
+        """Whether both licences are there, each package is under both, and R's file has the two lines that R asks for."""
         self.assertIn("SPDX-License-Identifier: MIT OR Apache-2.0\n", content("LICENSE"))
         self.assertTrue(content("LICENSE-MIT").startswith("MIT License\n"))
         self.assertIn("Version 2.0, January 2004", content("LICENSE-APACHE"))
         self.assertRegex(content("r", "LICENSE"), r"\AYEAR: \d{4}\nCOPYRIGHT HOLDER: .+\n\Z")
-        for name in ("LICENSE", "LICENSE-MIT", "r/LICENSE"):
+        self.assertIn("\nLicense: MIT + file LICENSE | Apache License 2.0\n", content("r", "DESCRIPTION"))
+        for name in glob.glob(os.path.join(TOP, "python", "pyproject.toml")):
+            self.assertIn('license = {text = "MIT OR Apache-2.0"}', content(name))
+        for name in ("LICENSE", "LICENSE-MIT", "r/LICENSE", "r/DESCRIPTION", "CITATION.cff"):
             self.assertIn("Welungad maintainers", content(name))
 
     def test_looks_of_another_case(self):
@@ -902,7 +929,7 @@ class Release(unittest.TestCase):
             def study(case):
                 with open(os.path.join(room, "study.txt"), "w", encoding="utf-8") as file:
                     file.write(case)
-                environment = {**os.environ, "PATH": is_in_the_way(os.path.join(room, "bin"))}
+                environment = {**os.environ, "PATH": path_with(os.path.join(room, "bin"))}
                 return subprocess.run(["sh", "-c", lines], capture_output=True, text=True, cwd=room, env=environment)
 
             self.assertNotEqual(study("p 1\n").returncode, 0)
