@@ -3,6 +3,7 @@ import os
 import random
 import struct
 import unittest
+import warnings
 from decimal import Decimal
 from fractions import Fraction
 
@@ -153,6 +154,22 @@ class Kinds(unittest.TestCase):
         for given in ["", " ", "1\nedge A B 1", "1-e ps", "\\eps", "1;2", "1\r", "#"]:
             with self.subTest(given), self.assertRaises(ValueError):
                 _numbers.expression(given, "it")
+
+    def test_printed_doubles(self):
+        for given in ["0.3333333333333333", Decimal("0.14285714285714285"), "0.00010001000100010001"]:
+            with self.subTest(given), self.assertWarnsRegex(welungad.PrintedDoubleWarning, "^number is the text '.*', which is taken as it is"):
+                self.assertEqual(welungad.as_exact(given), Fraction(given))
+        with warnings.catch_warnings():
+            warnings.simplefilter("error")
+            for given in ["0.333333333333333", "0.30000000000000004", "0.250000000000000", "1/3", 1 / 3, "0.33333333333333333333", "1e-300"]:
+                welungad.as_exact(given)
+
+    @unittest.skipUnless(numpy, "numpy is missing")
+    def test_doubles_that_numpy_turned_into_texts(self):
+        for given in [["1/3", 1 / 3], [["0.5", 1 / 7]]]:
+            with self.subTest(given), self.assertRaisesRegex(TypeError, "^p has the text '0.(3+|142857.*)', which numpy made of the double 1/"):
+                _numbers.plain(numpy.array(given), "p")
+        self.assertEqual(_numbers.plain(numpy.array(["1/3", 0.25]), "p"), ["1/3", "0.25"])
 
     def test_whole_numbers(self):
         self.assertEqual(_numbers.whole(3, "it"), 3)

@@ -13,16 +13,18 @@ infinite one and NaN have no reading.
 """
 import re
 import struct
+import warnings
 from decimal import Decimal
 from fractions import Fraction
 from numbers import Rational
-from typing import Any, Optional, Tuple, Union
+from typing import Any, Iterator, Optional, Tuple, Union
 
 from ._library import kind_of
 
 Given = Union[Fraction, Decimal, str, int, float]
 
 _LARGEST_DENOMINATOR = 10_000
+_DIGITS_OF_A_DOUBLE = 15
 _MOST_PLACES = 30
 
 _NUMERAL = re.compile(r"[+-]?(?:(?P<whole>[0-9]+)/(?P<parts>[0-9]+)"
@@ -31,6 +33,11 @@ _NUMERAL = re.compile(r"[+-]?(?:(?P<whole>[0-9]+)/(?P<parts>[0-9]+)"
 
 # What an edge is written with: the tokens of an expression, and blanks.
 _EXPRESSION = re.compile(r"(?:[0-9.eE+\-*/()^ \t]|\\epsilon)*")
+
+
+
+class PrintedDoubleWarning(UserWarning):
+    """A text has the digits with which the double of a small fraction is printed, and is another number than the fraction."""
 
 
 # ---- doubles
@@ -126,18 +133,51 @@ def fraction_text(fraction: Rational) -> str:
     return str(n) if d == 1 else f"{n}/{d}"
 
 
+def printed_double(text: str) -> Optional[Fraction]:
+    """Returns the fraction that a text is the printed double of, if the text itself is another number: 1/3 for
+    "0.3333333333333333"."""
+    if len(text) < _DIGITS_OF_A_DOUBLE or value_of(text) is None or "/" in text:
+        return None
+    double = float(text)
+    found = _small_fraction(double) if 0 < double <= 1 and repr(double) == text else None
+    return None if found == value_of(text) else found
+
+
+def _texts(found: Any) -> Iterator[str]:
+    """Yields the texts in lists of lists."""
+    if isinstance(found, list):
+        for it in found:
+            yield from _texts(it)
+    elif isinstance(found, str):
+        yield found
+
+
 def plain(value: Any, place: str) -> Any:
     """Returns what an array, or a scalar of numpy, holds, as lists and numbers of Python.
 
-    `TypeError`: its numbers have fewer digits than a double, so that they are not the doubles that they look like.
+    `TypeError`: its numbers have fewer digits than a double, so that they are not the doubles that they look like; or numpy has
+    turned doubles into texts, since there was a text among them.
     """
     dtype = getattr(value, "dtype", None)
-    if getattr(dtype, "kind", "") == "f" and getattr(dtype, "itemsize", 8) != 8:
+    kind = getattr(dtype, "kind", "")
+    if kind == "f" and getattr(dtype, "itemsize", 8) != 8:
         raise TypeError(f"{place} is of type {dtype}, whose numbers are not doubles: give doubles, fractions or texts")
     found = value.tolist()
     if type(found) is type(value):
         raise TypeError(f"{place} is a number, and not of type {kind_of(value)}")
+    for text in _texts(found) if kind == "U" else ():
+        if printed_double(text):
+            raise TypeError(f"{place} has the text {text!r}, which numpy made of the double {printed_double(text)}: give an array of "
+                            "doubles, or of objects")
     return found
+
+
+def _warn_of_printed_double(text: str, place: str) -> None:
+    """Warns of a text that looks like a printed double of a fraction; it is taken as it is written."""
+    found = printed_double(text)
+    if found is not None:
+        warnings.warn(f"{place} is the text {text!r}, which is taken as it is written, and not as {found}, whose double is printed so",
+                      PrintedDoubleWarning, stacklevel=2)
 
 
 def numeral(value: Given, place: str) -> str:
@@ -157,11 +197,12 @@ def numeral(value: Given, place: str) -> str:
     if isinstance(value, Decimal):
         if not value.is_finite():
             raise ValueError(f"{place} is {value}, and not from 0 to 1")
-        return str(value)
+        return numeral(str(value), place)
     if isinstance(value, str):
         text = value.strip(" \t")
         if not _NUMERAL.fullmatch(text):
             raise ValueError(f"{place} is {value!r}, which is not a numeral: write 0.025, 1/40 or 2.5e-2")
+        _warn_of_printed_double(text, place)
         return text
     if callable(getattr(value, "tolist", None)) and getattr(value, "ndim", None) == 0:
         return numeral(plain(value, place), place)
