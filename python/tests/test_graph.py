@@ -4,6 +4,7 @@ import os
 import pickle
 import tempfile
 import unittest
+import warnings
 import xml.etree.ElementTree
 from decimal import Decimal
 from fractions import Fraction
@@ -165,6 +166,18 @@ class Answers(unittest.TestCase):
         for p, rejected in [([0.001, 0.9], ("a b",)), ([0.9, 0.001], ("a_b",)), ({"a_b": 0.001, "a b": 0.9}, ("a_b",))]:
             self.assertEqual(welungad.Graph([0.5, 0.5], {}, names=["a b", "a_b"]).test(p).rejected, rejected)
 
+    def test_a_tie_that_a_double_decides(self):
+        graph = pair()
+        level = Fraction(3, 10) / 2
+        with self.assertWarnsRegex(welungad.BesideWarning, "^the p-value of 'A' is 0.15000000000000002, one unit in the last place above 3/20, "
+                                                           "which is its level: if 3/20 was meant, it is rejected$"):
+            self.assertEqual(graph.test([0.1 + 0.05, 0.9], alpha="0.3").rejected, ())
+        with warnings.catch_warnings():
+            warnings.simplefilter("error")
+            self.assertEqual(graph.test([level, 0.9], alpha="0.3").rejected, ("A",))
+            self.assertEqual(graph.test(["0.15000000000000002", 0.9], alpha="0.3").rejected, ())
+            self.assertEqual(graph.test([0.1500001, 0.9], alpha="0.3").rejected, ())
+
     def test_priority(self):
         graph = holm()
         order = [tuple(it.name for it in graph.test([0.001, 0.002, 0.0005], priority=it).steps) for it in ("first", "last", "ratio")]
@@ -293,7 +306,7 @@ class Refusals(unittest.TestCase):
         graph = pair()
         one = functools.partial(welungad.Graph, names=["a b", "B"])
         for call, where, line in [
-            (lambda: one([0.1 + 0.2, 0.7], {}), "weights, which sum to 1.00000000000000004", "malformed: case: weight sum component 1"),
+            (lambda: one([0.1 + 0.2, 0.7], {}), "weights, which sum to 1.00000000000000004 (3/10 + 7/10 by as_exact with a total of 1)", "malformed: case: weight sum component 1"),
             (lambda: one([-1, 1], {}), "the weight of 'a b'", "malformed: case: weight of a_b component 1"),
             (lambda: one([1, 0], [[1, 0], [0, 0]]), "the edge from 'a b' to 'a b'", "malformed: case: self edge of a_b component 1"),
             (lambda: one([1, 0], [[0, 2], [0, 0]]), "the edge from 'a b' to 'B'", "malformed: case: edge a_b B component 1"),

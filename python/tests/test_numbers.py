@@ -8,7 +8,7 @@ from decimal import Decimal
 from fractions import Fraction
 
 import welungad
-from welungad import _numbers
+from welungad import _beside, _numbers
 
 try:
     import numpy
@@ -116,6 +116,30 @@ class Readings(unittest.TestCase):
             self.assertEqual(float(welungad.as_exact(double)), double)
 
 
+class BesideFractions(unittest.TestCase):
+    """Whether doubles beside small fractions are known, and a row is read to its total."""
+
+    def test_beside(self):
+        for double, fraction, units in [(0.1 + 0.2, "3/10", 1), (0.05 / 7, "1/140", 1), (1 - 0.9, "1/10", -2), (0.1 + 0.05, "3/20", 1)]:
+            with self.subTest(double):
+                self.assertEqual(_beside.beside(double), (Fraction(fraction), units))
+        for double in [0.0, 1.0, 0.5, 1 / 3, 0.123456789, 1e-300]:
+            with self.subTest(double):
+                self.assertIsNone(_beside.beside(double))
+        self.assertEqual(str(_beside.beside(0.1 + 0.2)), "one unit in the last place above 3/10")
+
+    def test_rows(self):
+        self.assertEqual(welungad.as_exact([0.1 + 0.2, "0.7"]), [Fraction("0.30000000000000004"), Fraction(7, 10)])
+        self.assertEqual(welungad.as_exact({"B": 0.5, "A": 1 / 3}), {"B": Fraction(1, 2), "A": Fraction(1, 3)})
+        self.assertEqual(welungad.as_exact([0.1 + 0.2, 0.7], total=1), [Fraction(3, 10), Fraction(7, 10)])
+        self.assertEqual(welungad.as_exact((0.1, 0.2, 0.1 + 0.2, 0.4), total="1"), [Fraction(k, 10) for k in (1, 2, 3, 4)])
+        with self.assertRaisesRegex(ValueError, "^the row reads as 3/10 \\+ 3/5, which is 9/10, and not 1$"):
+            welungad.as_exact([0.1 + 0.2, 0.6], total=1)
+        for given, total in [(0.5, 1), ([0.5, True], None), ([0.5, 0.5], True), ([[0.5], [0.5]], None)]:
+            with self.subTest(given), self.assertRaises(TypeError):
+                welungad.as_exact(given, total=total)
+
+
 class Kinds(unittest.TestCase):
     """Whether exact numbers are taken as they are, and what is not a number is refused."""
 
@@ -126,7 +150,7 @@ class Kinds(unittest.TestCase):
                 self.assertEqual(welungad.as_exact(given), Fraction(value.replace("0e99999", "0")))
 
     def test_no_numbers(self):
-        for given in [True, False, None, [0.5], (0.5,), {}, b"0.5", 0.5j, object()]:
+        for given in [True, False, None, b"0.5", 0.5j, object(), {0.5}, [None], iter([0.5])]:
             with self.subTest(given), self.assertRaises(TypeError):
                 welungad.as_exact(given)
 
@@ -185,7 +209,7 @@ class Kinds(unittest.TestCase):
         self.assertEqual(_numbers.whole(numpy.int32(2), "it"), 2)
         self.assertEqual(welungad.as_exact(numpy.str_("1/3")), Fraction(1, 3))
         for given in [numpy.float32(0.1), numpy.float16(0.1), numpy.longdouble(0.1), numpy.bool_(True), numpy.complex128(0.5),
-                      numpy.array([0.5]), numpy.datetime64("2020-01-01")]:
+                      numpy.array([[0.5]]), numpy.datetime64("2020-01-01")]:
             with self.subTest(repr(given)), self.assertRaises(TypeError):
                 welungad.as_exact(given)
         for given in [numpy.float64("nan"), numpy.float64(-0.1)]:

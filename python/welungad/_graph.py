@@ -1,8 +1,10 @@
 """Graphs: a weighted graph over hypotheses, and what the proved call answers about it."""
 import functools
+import warnings
 from fractions import Fraction
 from typing import Any, Callable, Dict, List, Mapping, NamedTuple, Optional, Sequence, Tuple, TypeVar, Union
 
+from ._beside import BesideWarning, beside_fraction
 from ._hypotheses import (frame_labels, frame_rows, hold_labels, in_order, is_frame, names_for, order_of, rows_of, values_of)
 from ._library import Text, bytes_of, kind_of, run
 from ._numbers import Given, expression, numeral, value_of
@@ -123,6 +125,16 @@ def _priority_words(priority: str) -> List[str]:
     if priority not in _PRIORITIES:
         raise ValueError(f"priority is one of {', '.join(_PRIORITIES)}, and not {priority!r}")
     return [] if priority == "first" else ["--priority", priority]
+
+
+def _warn_of_ties(given: Dict[str, Any], decision: Decision) -> None:
+    """Warns of each hypothesis that is retained since its p-value is a double just above a small fraction that is its level."""
+    for it in decision.kept:
+        double, level = given[it.name], it.weight * decision.alpha
+        found = beside_fraction(float(double), level) if isinstance(double, float) else None
+        if found is not None and it.p > level:
+            warnings.warn(f"the p-value of {it.name!r} is {float(double)!r}, {found}, which is its level: if {level} was meant, it is "
+                          "rejected", BesideWarning, stacklevel=3)
 
 
 class Graph:
@@ -293,8 +305,14 @@ class Graph:
 
         `p` has a p-value for each hypothesis, from 0 to 1. `alpha` is the level, above 0 and at most 1, with at most four decimals.
         `priority` says which hypothesis is rejected first of several that may be: the `first` or the `last` by position, or the one
-        with the least `ratio` of p-value and weight. The rejected ones are the same."""
-        return self._answer(["test", *_priority_words(priority)], self._case_of_p(p, alpha), read_decision)
+        with the least `ratio` of p-value and weight. The rejected ones are the same.
+
+        `BesideWarning`: a hypothesis is retained, since its p-value is a double that is a few units in the last place above a
+        small fraction that is its level."""
+        words, values = ["test", *_priority_words(priority)], in_order(p, self._labels, "p")
+        decision = self._answer(words, self._case_of_p(values, alpha), read_decision)
+        _warn_of_ties(dict(zip(self._labels, values)), decision)
+        return decision
 
     def test_many(self, rows: Any, alpha: Given = ALPHA) -> Trials:
         """Decides many rows of p-values, such as simulated trials. A row that has no decision is named by its number.

@@ -23,7 +23,7 @@ from ._library import kind_of
 
 Given = Union[Fraction, Decimal, str, int, float]
 
-_LARGEST_DENOMINATOR = 10_000
+LARGEST_DENOMINATOR = 10_000
 _DIGITS_OF_A_DOUBLE = 15
 _MOST_PLACES = 30
 
@@ -54,7 +54,7 @@ def _small_fraction(double: float) -> Optional[Fraction]:
     while under:
         quotient, rest = divmod(over, under)
         n, d, n_before, d_before = quotient * n + n_before, quotient * d + d_before, n, d
-        if d > _LARGEST_DENOMINATOR:
+        if d > LARGEST_DENOMINATOR:
             return None
         if n / d == double:
             return Fraction(n, d)
@@ -227,22 +227,4 @@ def whole(value: Any, place: str) -> int:
         value = plain(value, place)
     if isinstance(value, bool) or not isinstance(value, int):
         raise TypeError(f"{place} is a whole number, and not {value!r}")
-    return value
-
-
-def as_exact(number: Given) -> Fraction:
-    """Returns the exact value of a number, as every method of `Graph` reads it.
-
-    `number` is a Fraction, a Decimal, an int, a text such as "0.025" or "1/40", or a double from 0 to 1. A double is read as the
-    fraction with the least denominator up to 10,000 that rounds to it, else as the shortest decimal that does.
-
-    >>> as_exact(1 / 3), as_exact(0.025), as_exact("2.5e-2")
-    (Fraction(1, 3), Fraction(1, 40), Fraction(1, 40))
-
-    `TypeError`: it is not a number; a bool is none. `ValueError`: it has no value, or is a double that is not from 0 to 1.
-    """
-    text = numeral(number, "number")
-    value = value_of(text)
-    if value is None:
-        raise ValueError(f"number is {text}, which has no value within reach")
     return value

@@ -3,6 +3,7 @@ import re
 from fractions import Fraction
 from typing import Dict, List, Mapping, Optional, Sequence, Tuple
 
+from ._beside import meant
 from ._numbers import value_of
 
 # The lines about a case, and the places that they name. `name` and `other` are names of hypotheses, `number` is a place from 1.
@@ -66,7 +67,11 @@ def sum_text(texts: Sequence[str]) -> str:
     """Returns what numerals sum to, as they were read, for a message; nothing if one is an expression with epsilon."""
     values = [value_of(text) for text in texts]
     known = [value for value in values if value is not None]
-    return f", which sum to {shown(sum(known, Fraction(0)))}" if len(known) == len(values) else ""
+    if len(known) < len(values):
+        return ""
+    near = [meant(value) for value in known]
+    hint = f" ({' + '.join(map(str, near))} by as_exact with a total of 1)" if near != known and sum(near) == 1 else ""
+    return f", which sum to {shown(sum(known, Fraction(0)))}{hint}"
 
 
 def shown(number: Fraction) -> str:
