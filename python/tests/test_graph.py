@@ -75,6 +75,7 @@ class Given(unittest.TestCase):
             (lambda: welungad.Graph({1: 0.5}, {}), "^weights: label 1 is a text"), (lambda: welungad.Graph([1], 5), "^edges is a list of rows"),
             (lambda: welungad.Graph([1], [5]), "^the edges from 'H1' is a list"), (lambda: welungad.Graph([1], {"H1": 5}), "the edges from 'H1'"),
             (lambda: welungad.Graph("1", {}), "^weights is a list"), (lambda: welungad.Graph([1], {}, names="A"), "^names is a list"),
+            (lambda: welungad.Graph([1], {}, names={"A": "B"}), "^names is a list"),
             (lambda: welungad.Graph([1], {}, names=[5]), "^names: label 1 is a text"), (lambda: welungad.Graph({0.5}, {}), "^weights is a list"),
             (lambda: welungad.Graph([1], {("H1",): 1}), "^edges: .*is not a pair"), (lambda: graph.test(5), "^p is a list"),
             (lambda: graph.test("0.01 0.9"), "^p is a list"), (lambda: graph.test([0.1, None]), "^the p-value of 'B' is a number"),

@@ -156,7 +156,8 @@ class Kinds(unittest.TestCase):
 
     def test_no_value(self):
         for given in ["", "x", "0.01 0.9", "0.5\n", "1/0", "1/2/3", "1_000", "٣", "nan", "inf", "0,5", "5%", "1e", "--1", Decimal("NaN"),
-                      Decimal("Infinity"), Decimal("sNaN"), float("nan"), float("inf"), -0.1, 1.0000000000000002, "1e-999999999"]:
+                      Decimal("Infinity"), Decimal("sNaN"), float("nan"), float("inf"), -0.1, 1.0000000000000002, "1e-999999999", "1" * 5000,
+                      10**5000, Fraction(1, 10**5000), "0." + "3" * 5000]:
             with self.subTest(given), self.assertRaises(ValueError):
                 welungad.as_exact(given)
 

@@ -107,6 +107,8 @@ def _labels(weights: Any, edges: Any, names: Any) -> Tuple[str, ...]:
     """Returns the labels: those that are given, else those of the weights, else those of a frame of edges, else H1, H2, .."""
     found = values_of(weights, "weights")
     if names is not None:
+        if isinstance(names, Mapping):
+            raise TypeError("names is a list of labels, and not a dict")
         return hold_labels(values_of(names, "names").values, "names")
     if found.labels is not None:
         return hold_labels(found.labels, "weights")

@@ -25,6 +25,8 @@ Given = Union[Fraction, Decimal, str, int, float]
 
 LARGEST_DENOMINATOR = 10_000
 _DIGITS_OF_A_DOUBLE = 15
+# far above what a case may have, and below what Python turns into a whole number at once
+_MOST_CHARACTERS, _MOST_BITS = 4000, 4096
 _MOST_PLACES = 30
 
 _NUMERAL = re.compile(r"[+-]?(?:(?P<whole>[0-9]+)/(?P<parts>[0-9]+)"
@@ -193,6 +195,8 @@ def numeral(value: Given, place: str) -> str:
             raise ValueError(f"{place} is {float(value)!r}, and not from 0 to 1")
         return fraction_text(read_double(float(value)))
     if isinstance(value, Rational):
+        if max(int(value.numerator).bit_length(), int(value.denominator).bit_length()) > _MOST_BITS:
+            raise ValueError(f"{place} has too many digits")
         return fraction_text(value)
     if isinstance(value, Decimal):
         if not value.is_finite():
@@ -200,6 +204,8 @@ def numeral(value: Given, place: str) -> str:
         return numeral(str(value), place)
     if isinstance(value, str):
         text = value.strip(" \t")
+        if len(text) > _MOST_CHARACTERS:
+            raise ValueError(f"{place} has too many digits")
         if not _NUMERAL.fullmatch(text):
             raise ValueError(f"{place} is {value!r}, which is not a numeral: write 0.025, 1/40 or 2.5e-2")
         _warn_of_printed_double(text, place)
