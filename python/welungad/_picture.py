@@ -140,7 +140,7 @@ def _draw_circle(i: int, components: Sequence[Component], labels: Sequence[str],
         far = _RADIUS + (26 if label in steps else 12)
         drawn.append(_text((x + far * across, y + far * down + 4), _short(label), 12, weight="bold", anchor=anchor))
     else:
-        drawn.append(_text((x, y - 10), label, min(15.0, 100 / max(len(label), 5)), weight="bold"))
+        drawn.append(_text((x, y - 10), label, min(15.0, 84 / max(len(label), 5)), weight="bold"))
     texts = [number_text(component.weights[label]) for component in components]
     size = min(14.0, 88 / max(5, sum(map(len, texts)) + len(texts)))
     wide = 2 * _RADIUS * 0.8 / len(texts)
@@ -151,7 +151,7 @@ def _draw_circle(i: int, components: Sequence[Component], labels: Sequence[str],
         text = f"p {_number(p[label])}"
         drawn.append(_text((x, y + 22), text, min(11.0, 90 / len(text)), "#333"))
     if label in steps:
-        spot = (x + _RADIUS * across, y + _RADIUS * down)
+        spot = (x + (_RADIUS + 5) * across, y + (_RADIUS + 5) * down)
         drawn.append(f'<circle cx="{spot[0]:.1f}" cy="{spot[1]:.1f}" r="11" fill="#2e6b34"/>')
         drawn.append(_text((spot[0], spot[1] + 4.5), str(steps[label]), 12, "#fff", weight="bold"))
     return drawn
@@ -164,8 +164,11 @@ def _legend(components: Sequence[Component], decision: Optional[Decision]) -> Li
         lines.append((_INK, f"level α = {decision.alpha}; filled: rejected, with the number of the step"))
     if len(components) > 1 or components[0].share != 1:
         lines += [(_COLOURS[c % len(_COLOURS)], f"component {c + 1}: share {it.share}") for c, it in enumerate(components)]
-    if any(isinstance(edge, Quotient) for component in components for edge in component.edges.values()):
+    edges = [edge for component in components for edge in component.edges.values()]
+    if any(isinstance(edge, Quotient) for edge in edges):
         lines.append((_INK, "ε: a positive number below every positive fraction"))
+    if len(edges) > _MOST_LABELLED_EDGES:
+        lines.append((_INK, f"{len(edges)} edges: the text of each is shown where the pointer is on it"))
     return lines
 
 
