@@ -5,7 +5,7 @@
 # PYTHON names the interpreter; else each part takes the first of python3 and /usr/bin/python3 that has what it needs. Ends with
 # status 1 if a test fails, and with 77 if a tool is missing, after a line that names it and what was left out.
 set -eu
-here=$(CDPATH='' cd -- "$(dirname -- "$0")" && pwd)
+here=$(dirname -- "$(readlink -f -- "$0")")
 top=$(dirname -- "$here")
 interpreters=${PYTHON:-python3 /usr/bin/python3}
 missing=
@@ -34,7 +34,9 @@ first_that() {
 any=$(first_that 'import sys; assert sys.version_info >= (3, 8)')
 [ -n "$any" ] || skip 'python3, 3.8 or later,'
 if ! "$top/c/build.sh"; then
-    command -v rt >/dev/null || skip 'the C library, and rt to build it,'
+    for tool in rt cc ld ar objcopy; do
+        command -v "$tool" >/dev/null || skip "$tool, by which the C library is built,"
+    done
     exit 1
 fi
 unset WELUNGAD_LIBRARY WELUNGAD PYTHONPATH
