@@ -232,11 +232,10 @@ class Answers(unittest.TestCase):
             trials.counts()
 
     def test_a_row_that_is_too_wide(self):
-        graph = welungad.Graph(["1/3", "2/3"], [[0, "999999999999999937/999999999999999989"], ["999999999999999877/999999999999999967", 0]])
-        p = ["1/" + "9" * 29 + "7", "1/" + "9" * 28 + "91"]
-        trials = graph.test_many([[1, 1], p])
-        self.assertEqual(trials.statuses[0], 0)
-        self.assertIn(trials.statuses[1], (0, welungad.TOO_WIDE))
+        # (10^30 - 11) / 10^30 over this weight has a denominator above 2^127
+        trials = welungad.Graph(["1/999999999989", 0.5], [[0, 1], [1, 0]]).test_many([[1, 0.001], ["0." + "9" * 28 + "89", 0.9], [0, 0.9]])
+        self.assertEqual((trials.rejected, trials.statuses), (((False, True), None, (True, False)), (0, welungad.TOO_WIDE, 0)))
+        self.assertTrue(trials.refused[2].startswith("too wide: adjusted step 1: "))
 
     def test_many_of_a_case_that_is_refused(self):
         with self.assertRaises(welungad.Refused) as caught:

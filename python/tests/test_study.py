@@ -56,13 +56,17 @@ class Studies(Rooms):
         self.assertEqual(list(map(bool, replies)), [True, False, True, False, True])
         self.assertEqual(replies[4].rejections, (welungad.Settled("H2", 2, Fraction(1)),))
         self.assertEqual(study.show(), welungad.Shown(4, ("H1", "H2")))
+
+    def test_a_look_out_of_range(self):
+        study = welungad.Study(CASE, self.store)
         self.assertEqual(study.look("H2", 2, 2), welungad.RefusedLook("H2", 2, "range"))
+        self.assertEqual(study.show(), welungad.Shown(0, ()))
 
     def test_the_case_is_beside_the_file(self):
         welungad.Study(CASE, self.store).show()
         with open(self.store + ".case", encoding="ascii") as file:
             self.assertEqual(file.read(), welungad.canon(CASE))
-        self.assertEqual(sorted(os.listdir(self.room)), ["looks.db", "looks.db.case"])
+        self.assertEqual(set(os.listdir(self.room)) - {"looks.db-wal"}, {"looks.db", "looks.db.case"})
         umask = os.umask(0)
         os.umask(umask)
         self.assertEqual(stat.S_IMODE(os.stat(self.store + ".case").st_mode), 0o666 & ~umask)
@@ -99,7 +103,8 @@ class Studies(Rooms):
             study.show()
 
     def test_a_case_that_is_no_study(self):
-        for case, line in [(CASE.replace("stages 2\n", "").split("spend")[0], "malformed: kind"), (CASE + "arrive H1 1 0.1\n", "malformed: kind"),
+        single = "".join(line for line in CASE.splitlines(True) if not line.startswith(("stages", "spend")))
+        for case, line in [(single, "malformed: kind"), (CASE + "arrive H1 1 0.1\n", "malformed: kind"),
                            ("alpha x\n", "malformed: line 1: number")]:
             with self.subTest(line), self.assertRaises(welungad.Refused) as caught:
                 welungad.Study(case, self.store)
@@ -122,9 +127,8 @@ class Studies(Rooms):
         self.assertEqual(os.listdir(self.room), [])
 
     def test_a_file_that_is_none(self):
-        study = welungad.Study(CASE, self.room)
-        with self.assertRaises((welungad.Refused, ValueError, OSError)):
-            study.show()
+        with self.assertRaisesRegex(ValueError, "^store is the path of a file, and .* is a folder$"):
+            welungad.Study(CASE, self.room)
         study = welungad.Study(CASE, os.path.join(self.room, "missing", "looks.db"))
         with self.assertRaises(OSError):
             study.look("H1", 1, 0.1)

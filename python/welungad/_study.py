@@ -128,6 +128,8 @@ class Study:
             raise TypeError(f"store is the path of a file, and not of type {kind_of(store)}")
         if path in ("", ":memory:") or path.startswith("file:") or "\0" in path:
             raise ValueError(f"store is the path of a file, and not {path!r}")
+        if os.path.isdir(path):
+            raise ValueError(f"store is the path of a file, and {path} is a folder")
         self.store = path
         self.case = self._canon(given, form)
         self._read: Canonical = read_canonical(self.case)
