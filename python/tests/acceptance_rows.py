@@ -7,7 +7,7 @@ import os
 from dataclasses import dataclass, field
 from typing import Dict, Iterator, List, Optional, Tuple
 
-FOLDER = os.path.join(os.path.dirname(os.path.abspath(__file__)), "..", "crates", "acceptance", "data")
+import places
 
 # The lines that say more of a row, and have bytes below or none.
 _OTHERS = ("kept", "keeps", "keeper", "leaves", "devices", "room")
@@ -178,4 +178,4 @@ def rows_of(path: str) -> List[Row]:
 
 def all_rows() -> List[Row]:
     """Returns the calls of `run` in all tables."""
-    return [row for path in sorted(glob.glob(os.path.join(FOLDER, "*.rows"))) for row in rows_of(path)]
+    return [row for path in sorted(glob.glob(os.path.join(places.ROWS, "*.rows"))) for row in rows_of(path)]

@@ -1,6 +1,5 @@
-"""Tests of welungad.py: each row of crates/acceptance/data that `run` answers, and values by hand."""
+"""Tests of the functions over texts: each row of crates/acceptance/data that `run` answers, and values by hand."""
 import collections
-import os
 import pickle
 import threading
 import unittest
@@ -8,22 +7,26 @@ from fractions import Fraction
 
 import acceptance_rows
 import welungad
-
-EXAMPLES = os.path.join(os.path.dirname(os.path.abspath(__file__)), "..", "examples")
+from places import example, needs_rows
+from welungad import _cases
 
 # The one status of a table that no call in memory has: a source had a fault.
 READ_FAULT = 6
 
 
-def example(name):
-    with open(os.path.join(EXAMPLES, name), encoding="utf-8") as file:
-        return file.read()
+def form_of(words):
+    """Returns the value of --form among the words of a call."""
+    for number, word in enumerate(words):
+        if word.startswith("--form"):
+            return word[7:] or words[number + 1]
+    return "text"
 
 
 def lines_of(text):
     return "".join(line + "\n" for line in text)
 
 
+@needs_rows
 class Rows(unittest.TestCase):
     """Whether each row of the tables is answered with its status and its bytes."""
 
@@ -57,6 +60,18 @@ class Rows(unittest.TestCase):
                 self.assertTrue(text.startswith(row.fronts.begins), text)
         self.assertEqual(statuses, row.fronts.counts)
 
+    def test_the_names_of_each_case(self):
+        count = 0
+        for row in acceptance_rows.all_rows():
+            if row.status == 0 and row.case and row.words[0] not in ("catalogue", "sample", "help"):
+                with self.subTest(row.place):
+                    form = form_of(row.words)
+                    words = ["canon", *(["--form", form] if form != "text" else []), *(["--alpha", "0.05"] if form == "csv" else [])]
+                    canonical = welungad.run(words, row.case)[1].decode()
+                    self.assertEqual(_cases.names_in(row.case, form), tuple(canonical.split("\n")[1].split(" ")[1:]))
+                    count += 1
+        self.assertGreater(count, 200)
+
     def test_each_refusal_is_explained(self):
         for row in acceptance_rows.all_rows():
             if row.status in (2, 3, 4, 5):
@@ -81,6 +96,21 @@ class Calls(unittest.TestCase):
             welungad.run(["te\0st"])
         with self.assertRaises(TypeError):
             welungad.run("test")
+
+    def test_wrong_types(self):
+        case = example("holm.txt")
+        for call, named in [
+            (lambda: welungad.test(5), "case"), (lambda: welungad.test(10**9), "case"), (lambda: welungad.run([5]), "word 1"),
+            (lambda: welungad.run(["test"], 5), "case"), (lambda: welungad.run(["check", "p"], case, 5), "proof"),
+            (lambda: welungad.run(5), "words"), (lambda: welungad.run(["test"], case=5), "case"),
+            (lambda: welungad.run(["test"], None), "case"), (lambda: welungad.run(["test"], [1, 2]), "case"),
+            (lambda: welungad.check(case, 5), "proof"), (lambda: welungad.check(case, None), "proof"),
+            (lambda: welungad.canon(5), "case"), (lambda: welungad.stages(5), "case"), (lambda: welungad.test(True), "case"),
+            (lambda: welungad.test(case, form=5), "form"), (lambda: welungad.test(case, priority=5), "priority"),
+            (lambda: welungad.test(case, alpha=True), "alpha"), (lambda: welungad.test(case, alpha=[0.05]), "alpha"),
+        ]:
+            with self.subTest(named), self.assertRaisesRegex(TypeError, f"^{named} "):
+                call()
 
     def test_a_long_text(self):
         names = [f"H{k}" for k in range(1, 15)]
@@ -137,6 +167,7 @@ class Results(unittest.TestCase):
         for alpha in ("0.05", 0.05, Fraction(1, 20)):
             decision = welungad.test(sheet, form="csv", alpha=alpha)
             self.assertEqual((decision.alpha, decision.rejected), (Fraction(1, 20), ("A", "B")))
+        self.assertEqual(welungad.test(sheet, form="csv", alpha=1 / 3).alpha, Fraction(1, 3))
 
     def test_weights(self):
         case = lines_of(["alpha 0.05", "hypotheses A B", "weights 1/2 1/4", "edge A B 1/2"])
@@ -169,6 +200,7 @@ class Results(unittest.TestCase):
         self.assertFalse(checked)
         self.assertEqual(checked.reason, "no: step 1: above level")
 
+    @needs_rows
     def test_a_quotient(self):
         row = next(row for row in acceptance_rows.all_rows() if b"[1]/[2,-1]" in (row.file or b""))
         evidence = welungad.evidence(row.case)

@@ -1,0 +1,94 @@
+"""Tests of hypotheses: labels, the names that are made for them, and the one function that puts values in order."""
+import collections
+import unittest
+from fractions import Fraction
+
+from welungad import _hypotheses
+
+try:
+    import numpy
+except ImportError:
+    numpy = None
+try:
+    import pandas
+except ImportError:
+    pandas = None
+
+AB = ("A", "B")
+
+
+class Names(unittest.TestCase):
+    """Whether names are made for labels as R makes them."""
+
+    def test_names(self):
+        for labels, names in [
+            (("H1", "x_1.y-2"), ("H1", "x_1.y-2")),
+            (("low dose", "high dose"), ("low_dose", "high_dose")),
+            (("dose ü", "dose ä"), ("dose", "dose_2")),
+            (("α", "β"), ("H1", "H2")),
+            (("", "  "), ("H1", "H2")),
+            (("H2", "α"), ("H2", "H2_2")),
+            (("__a__b__ ", "a_b"), ("a_b_2", "a_b")),
+            (("H1\n",), ("H1",)),
+            (("x" * 40, "x" * 41), ("x" * 32, "x" * 30 + "_2")),
+            (("a b", "a  b", "a\tb"), ("a_b", "a_b_2", "a_b_3")),
+        ]:
+            with self.subTest(labels):
+                self.assertEqual(_hypotheses.names_for(labels), names)
+
+    def test_labels_are_distinct_texts(self):
+        with self.assertRaisesRegex(ValueError, "^weights: the label 'low dose' occurs 2 times$"):
+            _hypotheses.hold_labels(["low dose", "low dose"], "weights")
+        with self.assertRaisesRegex(TypeError, "^names: label 2 is a text, and not 2 of type int$"):
+            _hypotheses.hold_labels(["A", 2], "names")
+
+
+class Order(unittest.TestCase):
+    """Whether values are put in the order of the hypotheses, or refused."""
+
+    def test_in_order(self):
+        dictionary = {"B": 2, "A": 1}
+        for given in [[1, 2], (1, 2), dictionary, collections.OrderedDict(dictionary), range(1, 3)]:
+            with self.subTest(given):
+                self.assertEqual(_hypotheses.in_order(given, AB, "p"), [1, 2])
+
+    def test_what_cannot_be_matched(self):
+        for given, message in [
+            ([1], "^p has 1 values, and there are 2 hypotheses$"),
+            ([1, 2, 3], "^p has 3 values"),
+            ({"A": 1}, "^p: the hypothesis 'B' is missing$"),
+            ({"A": 1, "b": 2}, "^p: 'b' is not the name of a hypothesis: they are 'A', 'B'$"),
+            ({"A": 1, "B": 2, "C": 3}, "^p: 'C' is not the name"),
+        ]:
+            with self.subTest(given), self.assertRaisesRegex(ValueError, message):
+                _hypotheses.in_order(given, AB, "p")
+
+    def test_what_has_no_values_by_hypothesis(self):
+        for given in [{1, 2}, iter([1, 2]), (x for x in (1, 2)), map(int, "12"), "12", b"12", 1, 0.5, None, Fraction(1), {1: 1, 2: 2},
+                      {"A": 1, "B": 2}.values(), {"A", "B"}, object()]:
+            with self.subTest(given), self.assertRaisesRegex(TypeError, "^p"):
+                _hypotheses.in_order(given, AB, "p")
+
+    @unittest.skipUnless(numpy, "numpy is missing")
+    def test_numpy(self):
+        self.assertEqual(_hypotheses.in_order(numpy.array([0.5, 0.25]), AB, "p"), [0.5, 0.25])
+        for given in [numpy.array([[0.5, 0.25]]), numpy.array(0.5), numpy.array([0.5, 0.25], dtype="float32")]:
+            with self.subTest(given), self.assertRaisesRegex(TypeError, "^p is"):
+                _hypotheses.in_order(given, AB, "p")
+
+    @unittest.skipUnless(pandas, "pandas is missing")
+    def test_pandas(self):
+        self.assertEqual(_hypotheses.in_order(pandas.Series([2.0, 1.0], index=["B", "A"]), AB, "p"), [1.0, 2.0])
+        self.assertEqual(_hypotheses.in_order(pandas.Series([1.0, 2.0]), AB, "p"), [1.0, 2.0])
+        self.assertEqual(_hypotheses.in_order(pandas.Series(["1/3", 0.5], index=["B", "A"]), AB, "p"), [0.5, "1/3"])
+        for given in [pandas.Series([1.0, 2.0], index=["A", "A"]), pandas.Series([1.0, 2.0], index=["A", "C"]), pandas.Series([1.0])]:
+            with self.subTest(given), self.assertRaisesRegex(ValueError, "^p"):
+                _hypotheses.in_order(given, AB, "p")
+        for given in [pandas.Series([1.0, 2.0]).sort_values(ascending=False), pandas.DataFrame({"A": [1.0], "B": [2.0]}),
+                      pandas.Series([1.0, 2.0], index=AB, dtype="float32")]:
+            with self.subTest(given), self.assertRaisesRegex(TypeError, "^p"):
+                _hypotheses.in_order(given, AB, "p")
+
+
+if __name__ == "__main__":
+    unittest.main()

@@ -1,0 +1,222 @@
+"""Tests of numbers: the table of readings, the rule by its definition, and what is a number."""
+import os
+import random
+import struct
+import unittest
+import warnings
+from decimal import Decimal
+from fractions import Fraction
+
+import welungad
+from welungad import _beside, _numbers
+
+try:
+    import numpy
+except ImportError:
+    numpy = None
+
+TABLE = os.path.join(os.path.dirname(os.path.abspath(__file__)), "readings.txt")
+
+
+def double_of(bits):
+    return struct.unpack(">d", struct.pack(">Q", bits))[0]
+
+
+def bits_of(double):
+    return struct.unpack(">Q", struct.pack(">d", double))[0]
+
+
+def rows():
+    with open(TABLE, encoding="ascii") as file:
+        for line in file:
+            if not line.startswith("#"):
+                digits, printed, reading, part = line.split()
+                yield int(digits, 16), printed, reading, part
+
+
+def exactly(bits):
+    """Returns the value of a finite double that is not below 0, by its bits."""
+    exponent, digits = bits >> 52, bits & (2**52 - 1)
+    return Fraction(digits, 2**1074) if exponent == 0 else Fraction(2**52 + digits) * Fraction(2)**(exponent - 1075)
+
+
+def multiples(bits, parts):
+    """Returns the least and the greatest n for which n/parts rounds to a double, by the doubles beside it."""
+    low = (exactly(bits - 1) + exactly(bits)) / 2 * parts if bits else Fraction(0)
+    high = (exactly(bits) + exactly(bits + 1)) / 2 * parts
+    least, most = -(-low.numerator // low.denominator), high.numerator // high.denominator
+    if bits % 2:
+        least, most = least + (least == low), most - (most == high)
+    return least, most
+
+
+def by_definition(bits, denominators):
+    """Returns the reading of a double from 0 to 1, by trial of denominators and of places."""
+    for parts in denominators:
+        least, most = multiples(bits, parts)
+        if least <= most:
+            return Fraction(least, parts)
+    for places in range(1, 31):
+        least, most = multiples(bits, 10**places)
+        if least <= most:
+            scale = 10**places
+            return Fraction(min(range(least, most + 1), key=lambda n: (abs(Fraction(n, scale) - exactly(bits)), n % 2)), scale)
+    value = exactly(bits) * 10**30
+    return Fraction(-(-value.numerator // value.denominator), 10**30)
+
+
+class Readings(unittest.TestCase):
+    """Whether doubles are read by the rule."""
+
+    def test_the_table(self):
+        count = 0
+        for bits, printed, reading, part in rows():
+            with self.subTest(printed):
+                double = double_of(bits)
+                count += 1
+                if part == "refused":
+                    with self.assertRaisesRegex(ValueError, "not from 0 to 1"):
+                        welungad.as_exact(double)
+                else:
+                    self.assertEqual(repr(double), printed)
+                    self.assertEqual(welungad.as_exact(double), Fraction(reading))
+                    self.assertEqual(welungad.as_exact(double).denominator <= 10000, part == "small")
+        self.assertGreater(count, 140)
+
+    def test_by_hand(self):
+        for double, reading in [(1 / 3, "1/3"), (0.025, "1/40"), (0.1 + 0.2, "0.30000000000000004"), (2.0**-24, "5.960464477539063e-8"),
+                                (2.0**-44, "5.684341886080802e-14"), (-0.0, "0"), (5e-324, "1e-30"), (1.5e-30, "2e-30"),
+                                (1 / 9999, "1/9999"), (1 / 10001, "0.00009999000099990002"), (1e-5, "1/100000"), (0.3333, "3333/10000")]:
+            with self.subTest(double):
+                self.assertEqual(welungad.as_exact(double), Fraction(reading))
+
+    def test_the_definition(self):
+        chance = random.Random(3)
+        for _ in range(300):
+            n, d = chance.randrange(1, 10000), 10000
+            kind = chance.randrange(4)
+            double = [n / d, chance.random(), chance.random()**9, round(chance.random(), chance.randrange(3, 14))][kind]
+            bits = bits_of(double) + chance.choice([0, 0, 0, 1, -1])
+            # a fraction of a denominator up to 10,000 is among those that Fraction finds next to the double
+            near = Fraction(double_of(bits)).limit_denominator(10000).denominator
+            with self.subTest(double_of(bits)):
+                self.assertEqual(_numbers.read_double(double_of(bits)), by_definition(bits, [near]))
+
+    def test_every_small_fraction_is_read_as_itself(self):
+        chance = random.Random(4)
+        for _ in range(3000):
+            d = chance.randrange(1, 10001)
+            n = chance.randrange(0, d + 1)
+            self.assertEqual(welungad.as_exact(n / d), Fraction(n, d))
+
+    def test_every_reading_of_30_places_rounds_to_its_double(self):
+        chance = random.Random(5)
+        for _ in range(1000):
+            double = chance.random() ** chance.randrange(1, 5)
+            self.assertEqual(float(welungad.as_exact(double)), double)
+
+
+class BesideFractions(unittest.TestCase):
+    """Whether doubles beside small fractions are known, and a row is read to its total."""
+
+    def test_beside(self):
+        for double, fraction, units in [(0.1 + 0.2, "3/10", 1), (0.05 / 7, "1/140", 1), (1 - 0.9, "1/10", -2), (0.1 + 0.05, "3/20", 1)]:
+            with self.subTest(double):
+                self.assertEqual(_beside.beside(double), (Fraction(fraction), units))
+        for double in [0.0, 1.0, 0.5, 1 / 3, 0.123456789, 1e-300]:
+            with self.subTest(double):
+                self.assertIsNone(_beside.beside(double))
+        self.assertEqual(str(_beside.beside(0.1 + 0.2)), "one unit in the last place above 3/10")
+
+    def test_rows(self):
+        self.assertEqual(welungad.as_exact([0.1 + 0.2, "0.7"]), [Fraction("0.30000000000000004"), Fraction(7, 10)])
+        self.assertEqual(welungad.as_exact({"B": 0.5, "A": 1 / 3}), {"B": Fraction(1, 2), "A": Fraction(1, 3)})
+        self.assertEqual(welungad.as_exact([0.1 + 0.2, 0.7], total=1), [Fraction(3, 10), Fraction(7, 10)])
+        self.assertEqual(welungad.as_exact((0.1, 0.2, 0.1 + 0.2, 0.4), total="1"), [Fraction(k, 10) for k in (1, 2, 3, 4)])
+        with self.assertRaisesRegex(ValueError, "^the row reads as 3/10 \\+ 3/5, which is 9/10, and not 1$"):
+            welungad.as_exact([0.1 + 0.2, 0.6], total=1)
+        for given, total in [(0.5, 1), ([0.5, True], None), ([0.5, 0.5], True), ([[0.5], [0.5]], None)]:
+            with self.subTest(given), self.assertRaises(TypeError):
+                welungad.as_exact(given, total=total)
+
+
+class Kinds(unittest.TestCase):
+    """Whether exact numbers are taken as they are, and what is not a number is refused."""
+
+    def test_exact(self):
+        for given, value in [("1/40", "1/40"), ("2.5e-2", "1/40"), (" .5 ", "1/2"), ("5.", "5"), ("+1/2", "1/2"), (Decimal("0.10"), "1/10"),
+                             (Decimal("1E-7"), "1e-7"), (Fraction(2, 7), "2/7"), (0, "0"), (1, "1"), ("1e-00001", "1/10"), ("0e99999", "0")]:
+            with self.subTest(given):
+                self.assertEqual(welungad.as_exact(given), Fraction(value.replace("0e99999", "0")))
+
+    def test_no_numbers(self):
+        for given in [True, False, None, b"0.5", 0.5j, object(), {0.5}, [None], iter([0.5])]:
+            with self.subTest(given), self.assertRaises(TypeError):
+                welungad.as_exact(given)
+
+    def test_no_value(self):
+        for given in ["", "x", "0.01 0.9", "0.5\n", "1/0", "1/2/3", "1_000", "٣", "nan", "inf", "0,5", "5%", "1e", "--1", Decimal("NaN"),
+                      Decimal("Infinity"), Decimal("sNaN"), float("nan"), float("inf"), -0.1, 1.0000000000000002, "1e-999999999", "1" * 5000,
+                      10**5000, Fraction(1, 10**5000), "0." + "3" * 5000]:
+            with self.subTest(given), self.assertRaises(ValueError):
+                welungad.as_exact(given)
+
+    def test_one_function_writes_numbers(self):
+        for given, text in [(1 / 3, "1/3"), (0.5, "1/2"), (1, "1"), (Fraction(4, 2), "2"), (" 0.50", "0.50"), (Decimal("0.50"), "0.50"),
+                            (10**40, "1" + "0" * 40), (-0.0, "0")]:
+            with self.subTest(given):
+                self.assertEqual(_numbers.numeral(given, "it"), text)
+
+    def test_the_place_is_named(self):
+        with self.assertRaisesRegex(ValueError, "^p of 'H2' is nan, and not from 0 to 1$"):
+            _numbers.numeral(float("nan"), "p of 'H2'")
+        with self.assertRaisesRegex(TypeError, "^p of 'H2' is a number, and not True$"):
+            _numbers.numeral(True, "p of 'H2'")
+
+    def test_edges(self):
+        for given in ["1-\\epsilon", " 1/2*\\epsilon^2 ", "(1-\\epsilon)/3", "2\\epsilon"]:
+            self.assertEqual(_numbers.expression(given, "it"), given.strip())
+        for given in ["", " ", "1\nedge A B 1", "1-e ps", "\\eps", "1;2", "1\r", "#"]:
+            with self.subTest(given), self.assertRaises(ValueError):
+                _numbers.expression(given, "it")
+
+    def test_printed_doubles(self):
+        for given in ["0.3333333333333333", Decimal("0.14285714285714285"), "0.00010001000100010001"]:
+            with self.subTest(given), self.assertWarnsRegex(welungad.PrintedDoubleWarning, "^number is the text '.*', which is taken as it is"):
+                self.assertEqual(welungad.as_exact(given), Fraction(given))
+        with warnings.catch_warnings():
+            warnings.simplefilter("error")
+            for given in ["0.333333333333333", "0.30000000000000004", "0.250000000000000", "1/3", 1 / 3, "0.33333333333333333333", "1e-300"]:
+                welungad.as_exact(given)
+
+    @unittest.skipUnless(numpy, "numpy is missing")
+    def test_doubles_that_numpy_turned_into_texts(self):
+        for given in [["1/3", 1 / 3], [["0.5", 1 / 7]]]:
+            with self.subTest(given), self.assertRaisesRegex(TypeError, "^p has the text '0.(3+|142857.*)', which numpy made of the double 1/"):
+                _numbers.plain(numpy.array(given), "p")
+        self.assertEqual(_numbers.plain(numpy.array(["1/3", 0.25]), "p"), ["1/3", "0.25"])
+
+    def test_whole_numbers(self):
+        self.assertEqual(_numbers.whole(3, "it"), 3)
+        for given in [True, 1.0, 1.9, "2", None, Fraction(2)]:
+            with self.subTest(given), self.assertRaises(TypeError):
+                _numbers.whole(given, "it")
+
+    @unittest.skipUnless(numpy, "numpy is missing")
+    def test_numpy(self):
+        self.assertEqual(welungad.as_exact(numpy.float64(1) / 3), Fraction(1, 3))
+        self.assertEqual(welungad.as_exact(numpy.array(0.025)), Fraction(1, 40))
+        self.assertEqual(welungad.as_exact(numpy.int64(1)), 1)
+        self.assertEqual(_numbers.whole(numpy.int32(2), "it"), 2)
+        self.assertEqual(welungad.as_exact(numpy.str_("1/3")), Fraction(1, 3))
+        for given in [numpy.float32(0.1), numpy.float16(0.1), numpy.longdouble(0.1), numpy.bool_(True), numpy.complex128(0.5),
+                      numpy.array([[0.5]]), numpy.datetime64("2020-01-01")]:
+            with self.subTest(repr(given)), self.assertRaises(TypeError):
+                welungad.as_exact(given)
+        for given in [numpy.float64("nan"), numpy.float64(-0.1)]:
+            with self.subTest(given), self.assertRaises(ValueError):
+                welungad.as_exact(given)
+
+
+if __name__ == "__main__":
+    unittest.main()

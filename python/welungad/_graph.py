@@ -1,0 +1,401 @@
+"""Graphs: a weighted graph over hypotheses, and what the proved call answers about it."""
+import functools
+import warnings
+from fractions import Fraction
+from typing import Any, Callable, Dict, List, Mapping, NamedTuple, Optional, Sequence, Tuple, TypeVar, Union
+
+from ._beside import BesideWarning, beside_fraction
+from ._hypotheses import (frame_labels, frame_rows, hold_labels, in_order, is_frame, names_for, order_of, rows_of, values_of)
+from ._library import Text, bytes_of, kind_of, run
+from ._numbers import Given, expression, numeral, value_of
+from ._picture import picture_of
+from ._places import place_of, sum_above, sum_text
+from ._refusals import BadAnswer, Refused
+from ._reports import (Canonical, Report, check_answer, read_bounds, read_canonical, read_decision, read_evidence, read_simes, read_stages,
+                       read_weights, read_whole, take_answer)
+from ._results import (Answer, Bounds, Checked, Component, Decision, Evidence, Picture, Simes, Stages, Step, Trials, Weights,
+                       answered)
+from ._staged import Plan, looks_of, plan_of
+from ._trials import decide_rows, rows_of_p
+from ._updates import steps_of
+
+ALPHA = "0.025"
+_ANY_ALPHA = "1/40"
+_PRIORITIES = ("first", "last", "ratio")
+
+Found = TypeVar("Found", bound=Answer)
+
+
+class Line(NamedTuple):
+    """A line of a case, and what a user calls what it holds."""
+
+    text: str
+    place: str
+
+
+class Case(NamedTuple):
+    """The text of a case, the places of its lines, and the level and the p-values in it, which the answer has to have too."""
+
+    text: str
+    places: List[str]
+    alpha: Optional[Fraction]
+    p: Optional[Dict[str, Optional[Fraction]]]
+
+
+class Part(NamedTuple):
+    """A graph as it is handed in: its share, its weights in the order of the hypotheses, and its edges by rows, all as texts."""
+
+    share: str
+    weights: List[str]
+    edges: List[List[str]]
+
+
+# ---- what a user gives
+
+
+def _edge_place(start: str, end: str) -> str:
+    return f"the edge from {start!r} to {end!r}"
+
+
+def _row(given: Any, start: str, labels: Sequence[str]) -> List[str]:
+    """Returns the edges from a hypothesis, as texts in the order of the hypotheses; what a dict does not have is 0."""
+    argument = f"the edges from {start!r}"
+    if isinstance(given, Mapping):
+        hold_labels(list(given), argument)
+        order_of([*given, *(label for label in labels if label not in given)], labels, argument)
+        values: List[Any] = [given.get(label, 0) for label in labels]
+    else:
+        values = in_order(given, labels, argument)
+    return [expression(value, _edge_place(start, end)) for end, value in zip(labels, values)]
+
+
+def _by_pairs(given: Mapping[Any, Any]) -> Dict[Any, Dict[Any, Any]]:
+    """Returns edges by their two hypotheses as edges by the first and then by the second."""
+    rows: Dict[Any, Dict[Any, Any]] = {}
+    for pair, value in given.items():
+        if not isinstance(pair, tuple) or len(pair) != 2:
+            raise TypeError(f"edges: {pair!r} is not a pair of hypotheses, as the other keys are")
+        rows.setdefault(pair[0], {})[pair[1]] = value
+    return rows
+
+
+def _frame_rows(given: Any, labels: Sequence[str]) -> List[List[Any]]:
+    """Returns the rows of a frame of edges in the order of the hypotheses."""
+    rows, columns = frame_labels(given)
+    found = frame_rows(given, "edges")
+    if (rows is None) != (columns is None):
+        raise ValueError(f"edges: the {'columns' if rows is None else 'rows'} have labels, and the others have none")
+    if rows is None or columns is None:
+        return found
+    from_places, to_places = order_of(rows, labels, "the rows of edges"), order_of(columns, labels, "the columns of edges")
+    return [[found[i][j] for j in to_places] for i in from_places]
+
+
+def _edges(given: Any, labels: Sequence[str]) -> List[List[str]]:
+    """Returns the edges by rows, as texts, both in the order of the hypotheses."""
+    if isinstance(given, Mapping):
+        rows = _by_pairs(given) if any(isinstance(key, tuple) for key in given) else given
+        order_of([*rows, *(label for label in labels if label not in rows)], labels, "edges")
+        return [_row(rows.get(label, {}), label, labels) for label in labels]
+    found = _frame_rows(given, labels) if is_frame(given) else rows_of(given, "edges")
+    if len(found) != len(labels):
+        raise ValueError(f"edges has {len(found)} rows, and there are {len(labels)} hypotheses")
+    return [_row(row, label, labels) for label, row in zip(labels, found)]
+
+
+def _labels(weights: Any, edges: Any, names: Any) -> Tuple[str, ...]:
+    """Returns the labels: those that are given, else those of the weights, else those of a frame of edges, else H1, H2, .."""
+    found = values_of(weights, "weights")
+    if names is not None:
+        if isinstance(names, Mapping):
+            raise TypeError("names is a list of labels, and not a dict")
+        return hold_labels(values_of(names, "names").values, "names")
+    if found.labels is not None:
+        return hold_labels(found.labels, "weights")
+    rows = frame_labels(edges)[0] if is_frame(edges) else None
+    if rows is not None:
+        return hold_labels(rows, "the rows of edges")
+    return tuple(f"H{number}" for number in range(1, len(found.values) + 1))
+
+
+def _numerals(given: Any, labels: Sequence[str], argument: str, one: str) -> List[str]:
+    """Returns the numbers of an argument by hypothesis, as texts in the order of the hypotheses."""
+    return [numeral(value, f"{one} of {label!r}") for label, value in zip(labels, in_order(given, labels, argument))]
+
+
+def _priority_words(priority: str) -> List[str]:
+    if priority not in _PRIORITIES:
+        raise ValueError(f"priority is one of {', '.join(_PRIORITIES)}, and not {priority!r}")
+    return [] if priority == "first" else ["--priority", priority]
+
+
+def _warn_of_ties(given: Dict[str, Any], decision: Decision) -> None:
+    """Warns of each hypothesis that is retained since its p-value is a double just above a small fraction that is its level."""
+    for it in decision.kept:
+        double, level = given[it.name], it.weight * decision.alpha
+        found = beside_fraction(float(double), level) if isinstance(double, float) else None
+        if found is not None and it.p > level:
+            warnings.warn(f"the p-value of {it.name!r} is {float(double)!r}, {found}, which is its level: if {level} was meant, it is "
+                          "rejected", BesideWarning, stacklevel=3)
+
+
+class Graph:
+    """A weighted graph over hypotheses, for graphical multiple tests.
+
+    >>> graph = Graph({"low dose": "1/2", "high dose": "1/2"}, [[0, 1], [1, 0]])
+    >>> graph.test({"high dose": 0.02, "low dose": 0.01}, alpha=0.025).rejected
+    ('low dose', 'high dose')
+
+    `weights` has the part of the level that each hypothesis begins with: numbers from 0 to 1 that sum to at most 1.
+    `edges` has the part of its weight that a hypothesis passes to another when it is rejected: numbers from 0 to 1 that sum to at
+    most 1 for each hypothesis, or texts with the infinitesimal `\\epsilon`, such as "1-\\epsilon". It is
+
+    - a square matrix: a list of rows, an array of numpy, or a frame of pandas; row i is what hypothesis i passes on; or
+    - a dict of dicts, {from: {to: number}}, or a dict by pairs, {(from, to): number}; an edge that it lacks is 0.
+
+    `names` are the labels of the hypotheses: any texts, all different. If they are left out, they are the keys of `weights`, or the
+    labels of the rows of `edges`, or else H1, H2 and so on. At most 64 hypotheses.
+
+    What is by hypothesis (weights, p-values, levels) is a list, a tuple or an array in the order of the hypotheses, or a dict or
+    a series of pandas with their labels in any order. A number is a Fraction, a Decimal, an int, a text such as "0.025" or "1/40",
+    or a double from 0 to 1, which is read as `as_exact` says.
+
+    Every method makes one proved call, decides nothing itself, and returns exact numbers with the user's labels.
+
+    `TypeError`, `ValueError`: an argument has a wrong type, or cannot be matched with the hypotheses once and wholly; the message
+    names the argument and the place. `Refused`: the proved call refuses the case. `BadAnswer`: what answered is not the library.
+    `OSError`: the library is not found.
+    """
+
+    def __init__(self, weights: Any, edges: Any, names: Any = None):
+        labels = _labels(weights, edges, names)
+        part = Part("1", _numerals(weights, labels, "weights", "the weight"), _edges(edges, labels))
+        self._begin(labels, [part])
+
+    @classmethod
+    def entangled(cls, graphs: "Sequence[Graph]", shares: Sequence[Given]) -> "Graph":
+        """Returns the entangled graph of several graphs over the same hypotheses, each with its share of the level.
+
+        `shares` are numbers from 0 to 1 that sum to at most 1, one for each graph. At most 8 graphs."""
+        parts = list(graphs)
+        if not parts or not all(isinstance(it, Graph) for it in parts):
+            raise TypeError("graphs are graphs, at least one")
+        texts = [numeral(share, f"share {number}") for number, share in enumerate(values_of(shares, "shares").values, 1)]
+        if len(texts) != len(parts):
+            raise ValueError(f"shares has {len(texts)} values, and there are {len(parts)} graphs")
+        for number, graph in enumerate(parts, 1):
+            if graph.names != parts[0].names:
+                raise ValueError(f"graph {number} has other hypotheses than graph 1, or another order of them")
+            if len(graph._parts) != 1:
+                raise ValueError(f"graph {number} is entangled already")
+        whole = cls.__new__(cls)
+        whole._begin(parts[0].names, [graph._parts[0]._replace(share=share) for graph, share in zip(parts, texts)])
+        return whole
+
+    def _begin(self, labels: Tuple[str, ...], parts: List[Part]) -> None:
+        """Lets the proved call read the graph, and holds what it read to what was given."""
+        self._labels = labels
+        self._names = names_for(labels)
+        self._by_name = dict(zip(self._names, labels))
+        self._by_label = dict(zip(labels, self._names))
+        self._parts = parts
+        self._lines = [line for part in parts for line in self._lines_of(part, len(parts) == 1)]
+        case = self._case(_ANY_ALPHA)
+        self._canonical = self._canon(case)
+        self._hold(self._canonical)
+
+    # ---- what the graph is
+
+    @property
+    def names(self) -> Tuple[str, ...]:
+        """The labels of the hypotheses, in their order."""
+        return self._labels
+
+    @property
+    def program_names(self) -> Dict[str, str]:
+        """The program's name of each label, as it is in the texts `case` and `report` of a result."""
+        return dict(self._by_label)
+
+    @property
+    def components(self) -> Tuple[Component, ...]:
+        """The graphs with their shares, weights and edges, as the proved call read them: one, unless this graph is entangled."""
+        found = self._canonical
+        return tuple(Component(share, {self._by_name[name]: weight for name, weight in weights.items()},
+                               {(self._by_name[start], self._by_name[end]): edge for (start, end), edge in edges.items()})
+                     for share, weights, edges in zip(found.shares, found.weights, found.edges))
+
+    def __len__(self) -> int:
+        return len(self._labels)
+
+    def __repr__(self) -> str:
+        return f"<Graph of {', '.join(map(repr, self._labels))}>"
+
+    # ---- the case
+
+    def _lines_of(self, part: Part, alone: bool) -> List[Line]:
+        """Returns the lines of a graph; an edge that is 0 has none."""
+        lines = [] if alone and part.share == "1" else [Line(f"component {part.share}", "shares")]
+        lines.append(Line(" ".join(["weights", *part.weights]), "weights"))
+        for i, row in enumerate(part.edges):
+            for j, edge in enumerate(row):
+                if value_of(edge) != 0:
+                    lines.append(Line(f"edge {self._names[i]} {self._names[j]} {edge}", _edge_place(self._labels[i], self._labels[j])))
+        return lines
+
+    def _case(self, alpha: str, p: Optional[List[str]] = None, stages: Sequence[Line] = ()) -> Case:
+        """Returns a case of this graph at a level, with p-values or stages."""
+        lines = [Line(f"alpha {alpha}", "alpha"), Line(" ".join(["hypotheses", *self._names]), "names")]
+        if p is not None:
+            lines.append(Line(" ".join(["p", *p]), "p"))
+        lines += [*self._lines, *stages]
+        values = dict(zip(self._labels, map(value_of, p))) if p is not None else None
+        return Case("".join(f"{line.text}\n" for line in lines), [line.place for line in lines], value_of(alpha), values)
+
+    def _case_of_p(self, p: Any, alpha: Given) -> Case:
+        texts = _numerals(p, self._labels, "p", "the p-value")
+        return self._case(numeral(alpha, "alpha"), texts)
+
+    def _canon(self, case: Case) -> Canonical:
+        return read_canonical(self._ask(["canon"], case))
+
+    def _hold(self, found: Canonical) -> None:
+        """Refuses a reading of the graph that is not the graph that was given."""
+        if found.names != self._names or len(found.weights) != len(self._parts):
+            raise BadAnswer("what answered read a graph of other hypotheses than those that were given")
+        for part, share, weights, edges in zip(self._parts, found.shares, found.weights, found.edges):
+            given = {(start, end): part.edges[i][j] for i, start in enumerate(self._names) for j, end in enumerate(self._names)}
+            same = value_of(part.share) == share and list(map(value_of, part.weights)) == list(weights.values())
+            if not same or any(edges.get(pair, 0) != value_of(edge) for pair, edge in given.items() if value_of(edge) is not None):
+                raise BadAnswer("what answered read other shares, weights or edges than those that were given")
+
+    # ---- the call
+
+    def _ask(self, words: List[str], case: Case, proof: Text = b"") -> str:
+        """Makes a call, and returns the whole text of its answer. What is refused names the argument."""
+        status, text = run(words, case.text, proof)
+        try:
+            return take_answer(words[0], status, text)
+        except Refused as refused:
+            raise Refused(refused.status, refused.line, self._where(refused.line, case)) from None
+
+    def _answer(self, words: List[str], case: Case, read: Callable[[Report], Found]) -> Found:
+        """Makes a call, and returns its result with the user's labels."""
+        text = self._ask(words, case)
+        result = answered(read_whole(words[0], text, self._by_name, read), text, case.text)
+        if isinstance(result, (Decision, Stages)) and result.alpha != case.alpha:
+            raise BadAnswer(f"what answered decided at the level {result.alpha}, and {case.alpha} was given")
+        if isinstance(result, Decision) and {it.name: it.p for it in result.steps + result.kept} != case.p:
+            raise BadAnswer("what answered decided on other p-values than those that were given")
+        return result
+
+    def _where(self, line: str, case: Case) -> str:
+        """Returns what a user calls the place that a refusal names, with what a sum above its bound was read as."""
+        place = place_of(line, case.places, self._by_name)
+        found = sum_above(line)
+        if found is None:
+            return place
+        kind, name, component = found
+        if kind == "share":
+            return place + sum_text([part.share for part in self._parts])
+        part = self._parts[component]
+        return place + sum_text(part.weights if kind == "weight" else part.edges[self._names.index(name)])
+
+    # ---- the commands
+
+    def test(self, p: Any, alpha: Given = ALPHA, priority: str = "first") -> Decision:
+        """Decides the graphical test: which hypotheses are rejected, in which order, and the adjusted p-values.
+
+        `p` has a p-value for each hypothesis, from 0 to 1. `alpha` is the level, above 0 and at most 1, with at most four decimals.
+        `priority` says which hypothesis is rejected first of several that may be: the `first` or the `last` by position, or the one
+        with the least `ratio` of p-value and weight. The rejected ones are the same.
+
+        `BesideWarning`: a hypothesis is retained, since its p-value is a double that is a few units in the last place above a
+        small fraction that is its level."""
+        words, values = ["test", *_priority_words(priority)], in_order(p, self._labels, "p")
+        decision = self._answer(words, self._case_of_p(values, alpha), read_decision)
+        _warn_of_ties(dict(zip(self._labels, values)), decision)
+        return decision
+
+    def test_many(self, rows: Any, alpha: Given = ALPHA) -> Trials:
+        """Decides many rows of p-values, such as simulated trials. A row that has no decision is named by its number.
+
+        `rows` is a list with a row of p-values for each trial, an array of numpy with a row a trial, or a frame of pandas with a
+        column for each hypothesis. A row that is too wide, or has a double without a reading, has no decision, and the others have
+        theirs. `TypeError`, `ValueError`: a row has a wrong type or a wrong number of values; the message has its number, from 1."""
+        case = numeral(alpha, "alpha")
+        self._canon(self._case(case))
+        return decide_rows(rows_of_p(rows, self._labels), self._labels, functools.partial(self._decided, case))
+
+    def _decided(self, alpha: str, p: List[str]) -> Decision:
+        return self._answer(["test"], self._case(alpha, p), read_decision)
+
+    def weights(self) -> Weights:
+        """Returns the weights of all intersections, of at most 16 hypotheses, as fractions of the level."""
+        return self._answer(["weights"], self._case(_ANY_ALPHA), read_weights)
+
+    def bounds(self, p: Any, alpha: Given = ALPHA) -> Bounds:
+        """Returns a lower bound on the number of false hypotheses in each set of at most 16 hypotheses. Of 16 hypotheses with
+        epsilon it may take some seconds."""
+        return self._answer(["bounds"], self._case_of_p(p, alpha), read_bounds)
+
+    def simes(self, p: Any, alpha: Given = ALPHA) -> Simes:
+        """Returns what the closed test of weighted Simes tests bounds and rejects, of at most 16 hypotheses."""
+        return self._answer(["simes"], self._case_of_p(p, alpha), read_simes)
+
+    def evidence(self, p: Any, alpha: Given = ALPHA, priority: str = "first") -> Evidence:
+        """Returns evidence, in version 2, for the decision. Its `text` is the document that `check` and the tools take."""
+        return self._answer(["evidence", *_priority_words(priority)], self._case_of_p(p, alpha), read_evidence)
+
+    def check(self, p: Any, proof: Union[Text, Evidence], alpha: Given = ALPHA) -> Checked:
+        """Checks whether a proof is evidence for the rejections of this graph with these p-values at this level.
+
+        `proof` is what `evidence` returned, or the text of a document, in which the hypotheses have the program's names."""
+        case = self._case_of_p(p, alpha)
+        given = bytes_of(proof.text if isinstance(proof, Evidence) else proof, "proof")
+        text = self._ask(["check", "proof"], case, given)
+        return answered(check_answer(text, given, self._by_name), text, case.text)
+
+    def steps(self, p: Any, alpha: Given = ALPHA, priority: str = "first") -> Tuple[Step, ...]:
+        """Returns the graph before the first rejection and after each one, as the removal of the rejected hypothesis updates it.
+
+        The weights and edges are computed here, exactly, and each weight is held to the one that the proved call prints.
+        `BadAnswer`: one differs, which must not happen."""
+        decision = self.test(p, alpha, priority)
+        return steps_of(self.components, self._labels, decision, self._weights_without)
+
+    def _weights_without(self, removed: Sequence[str]) -> Dict[str, Fraction]:
+        """Returns the weights that the proved call prints once some hypotheses are removed, which begin with a weight above 0."""
+        p = ["0" if label in removed else "1" for label in self._labels]
+        decision = self._decided(_ANY_ALPHA, p)
+        return {it.name: it.weight for it in decision.kept}
+
+    def stages(self, levels: Any, looks: Any = (), alpha: Given = ALPHA, at: Any = 1) -> Stages:
+        """Decides a staged trial, in which each hypothesis spends its level over several stages, as its p-values arrive.
+
+        `levels` has for each hypothesis the levels of its stages, each from 0 on: a list, in which they count at the weight `at`
+        and in proportion at other weights; or a dict {weight: list}, in which each list counts from its weight on. The levels of
+        a hypothesis sum to at most its weight times alpha. As a frame of pandas it has the labels of the hypotheses on its rows
+        or on its columns, and not on both. At most 12 stages.
+        `looks` are the p-values in the order in which they arrive: triples of a label, a stage from 1 and a p-value, or a frame with
+        the columns hypothesis, stage and p. `at` is a number for all hypotheses, or has one for each."""
+        text = numeral(alpha, "alpha")
+        plan: Plan = plan_of(levels, self._labels, text, at)
+        lines = [Line(f"stages {plan.stages}", "levels")]
+        lines += [Line(" ".join([word, self._by_label[label], *words]), f"the levels of {label!r}") for word, label, words in plan.lines]
+        arrivals = looks_of(looks, self._labels)
+        lines += [Line(f"arrive {self._by_label[it.label]} {it.stage} {it.p}", f"look {number}") for number, it in enumerate(arrivals, 1)]
+        result = self._answer(["stages"], self._case(text, stages=lines), read_stages)
+        if [(it.name, it.stage, it.p) for it in result.arrivals] != [(it.label, it.stage, value_of(it.p)) for it in arrivals]:
+            raise BadAnswer("what answered decided on other looks than those that were given")
+        return result
+
+    def draw(self, decision: Optional[Decision] = None) -> Picture:
+        """Returns a picture of the graph, as SVG; with a decision on it, what is rejected is filled and has the number of its step.
+
+        `ValueError`: the decision has other hypotheses."""
+        if decision is not None:
+            if not isinstance(decision, Decision):
+                raise TypeError(f"decision is a decision, and not of type {kind_of(decision)}")
+            if tuple(decision.adjusted) != self._labels:
+                raise ValueError("the decision is of other hypotheses than the graph")
+        return picture_of(self.components, self._labels, decision)

@@ -1,0 +1,190 @@
+"""The call of the C library: where the library is, whether it is the one that was built, and `run`."""
+import ctypes
+import functools
+import hashlib
+import os
+import sys
+import threading
+from typing import Callable, Iterable, List, Optional, Tuple, Union
+
+INTERFACE = 1
+
+DONE, NO, USAGE, MALFORMED, LIMIT, TOO_WIDE, NO_MEMORY, UNREADABLE_WORDS = 0, 1, 2, 3, 4, 5, 8, 10
+
+Text = Union[str, bytes]
+
+_NAME = "libwelungad.so"
+_PACKAGE = os.path.dirname(os.path.abspath(__file__))
+_ROOM = 7
+_FIRST_ROOM = 65536
+
+
+# ---- where the library is
+
+
+def checkout() -> Optional[str]:
+    """Returns the top of the checkout that this package lies in, if it lies in one."""
+    top = os.path.dirname(os.path.dirname(_PACKAGE))
+    return top if os.path.isfile(os.path.join(top, "c", "welungad.h")) and os.path.isdir(os.path.join(top, "crates")) else None
+
+
+def prefixes() -> List[str]:
+    """Returns the folders that Welungad may be installed below: the one that this package lies in, and Python's own."""
+    above = os.path.dirname(_PACKAGE)
+    within = os.path.join("share", "welungad", "python")
+    own = [above[: -len(within)]] if above.endswith(os.sep + within) else []
+    return own + [sys.prefix]
+
+
+def places() -> List[str]:
+    """Returns the paths at which the library may be, in the order in which they are tried."""
+    named = os.environ.get("WELUNGAD_LIBRARY")
+    if named:
+        return [os.path.abspath(named)]
+    top = checkout()
+    built = [os.path.join(top, "c", "out", _NAME)] if top else []
+    return [os.path.join(_PACKAGE, _NAME), *built, *(os.path.join(prefix, "lib", _NAME) for prefix in prefixes())]
+
+
+def _found() -> str:
+    """Returns the path of the library, or its bare name if only the system's loader may know it."""
+    tried = places()
+    for path in tried:
+        if os.path.exists(path):
+            return path
+    if os.environ.get("WELUNGAD_LIBRARY"):
+        raise OSError(f"WELUNGAD_LIBRARY names {tried[0]}, and there is no such file")
+    return _NAME
+
+
+def _load(path: str) -> ctypes.CDLL:
+    try:
+        return ctypes.CDLL(path)
+    except OSError as error:
+        if path != _NAME:
+            raise OSError(f"{path} cannot be loaded: {error}") from error
+        tried = ", ".join(places())
+        raise OSError(f"{_NAME} is not found. The places tried: {tried}, and those of the system's loader. Build it by "
+                      "c/build.sh, or let the environment variable WELUNGAD_LIBRARY name it") from error
+
+
+# ---- whether it is the library that was built
+
+
+def stamped(stamp: str, path: str) -> Optional[str]:
+    """Returns the SHA-256 that a stamp has for a file, or nothing if it has none."""
+    names = {os.path.basename(path), os.path.basename(os.path.realpath(path))}
+    with open(stamp, encoding="utf-8", errors="replace") as file:
+        lines = [line.split() for line in file]
+    return next((line[2] for line in lines if len(line) == 3 and line[0] == "sha256" and line[1] in names), None)
+
+
+def hold_to_stamp(path: str, stamp: str) -> None:
+    """Refuses a file that is not the one that the stamp names. `OSError`: it is another, or the stamp does not name it."""
+    wanted = stamped(stamp, path)
+    if wanted is None:
+        raise OSError(f"{stamp} has no line sha256 for {os.path.basename(path)}")
+    with open(path, "rb") as file:
+        found = hashlib.sha256(file.read()).hexdigest()
+    if found != wanted.lower():
+        raise OSError(f"{path} is not the file that was built: its SHA-256 is {found}, and {stamp} has {wanted}")
+
+
+def hold(path: str) -> None:
+    """Refuses a library that is not the one that was built, as far as a stamp says what was.
+
+    A stamp lies beside the library; below a prefix it is share/welungad/identity. A library in a checkout must have one.
+    """
+    folder = os.path.dirname(path)
+    beside = os.path.join(folder, "stamp")
+    identity = os.path.join(os.path.dirname(folder), "share", "welungad", "identity")
+    if os.path.isfile(beside):
+        hold_to_stamp(path, beside)
+    elif os.path.isfile(identity) and stamped(identity, path):
+        hold_to_stamp(path, identity)
+    elif os.path.isfile(os.path.join(folder, "..", "build.sh")):
+        raise OSError(f"{path} has no stamp beside it: run c/build.sh")
+
+
+@functools.lru_cache(maxsize=None)
+def _library() -> Callable[..., int]:
+    """Loads the library and returns its call. `OSError`: there is none, it is not what was built, or has another interface."""
+    path = _found()
+    if path != _NAME:
+        hold(path)
+    library = _load(path)
+    if not hasattr(library, "welungad_interface") or not hasattr(library, "welungad_run"):
+        raise OSError(f"{path} is not Welungad's library: it has not its calls")
+    library.welungad_interface.argtypes = []
+    library.welungad_interface.restype = ctypes.c_uint32
+    interface = library.welungad_interface()
+    if interface != INTERFACE:
+        raise OSError(f"{path} has interface {interface}, and this package needs {INTERFACE}")
+    call = library.welungad_run
+    slices = [ctypes.c_char_p, ctypes.c_size_t] * 3
+    call.argtypes = [*slices, ctypes.c_void_p, ctypes.c_size_t, ctypes.POINTER(ctypes.c_size_t)]
+    call.restype = ctypes.c_uint8
+    return call
+
+
+# ---- the call
+
+_rooms = threading.local()
+
+
+def kind_of(value: object) -> str:
+    """Returns what a message calls the type of a value."""
+    return "None" if value is None else type(value).__name__
+
+
+def bytes_of(text: Text, argument: str) -> bytes:
+    """Returns the bytes of a text. `TypeError`: it is not a text, and the message names the argument."""
+    if isinstance(text, str):
+        return text.encode("utf-8", "surrogateescape")
+    if isinstance(text, (bytes, bytearray, memoryview)):
+        return bytes(text)
+    raise TypeError(f"{argument} is a text, as str or bytes, and not of type {kind_of(text)}")
+
+
+def _joined(words: Iterable[Text]) -> bytes:
+    """Returns the words, each ended by a byte 0."""
+    if isinstance(words, (str, bytes, bytearray, memoryview)):
+        raise TypeError("words are a list of texts, one for each word")
+    try:
+        listed = list(words)
+    except TypeError:
+        raise TypeError(f"words are a list of texts, and not of type {kind_of(words)}") from None
+    pieces = [bytes_of(word, f"word {number}") for number, word in enumerate(listed, 1)]
+    if any(b"\0" in piece for piece in pieces):
+        raise ValueError("a word holds a byte 0")
+    return b"".join(piece + b"\0" for piece in pieces)
+
+
+def run(words: Iterable[Text], case: Text = b"", proof: Text = b"") -> Tuple[int, bytes]:
+    """Runs the program's command `words` and returns its status and the text that the program prints.
+
+    `case` holds what the program reads from standard input, and `proof` what it reads from the file of `check FILE`. FILE is
+    not opened. The status is UNREADABLE_WORDS, with no text, if a word is not UTF-8.
+
+    Calls from several threads run side by side. A call that has begun cannot be stopped.
+
+    `TypeError`: a word, the case or the proof is not a text.
+    `ValueError`: a word holds a byte 0.
+    `OSError`: the library is not found, is not the one that was built, or has another interface.
+    """
+    joined, case, proof = _joined(words), bytes_of(case, "case"), bytes_of(proof, "proof")
+    call = _library()
+    needed = ctypes.c_size_t()
+    # The room is taken out of its place during the call, since a signal's handler may call in the same thread.
+    room = _rooms.__dict__.pop("room", None) or ctypes.create_string_buffer(_FIRST_ROOM)
+    out = room
+    while True:
+        status = call(
+            joined, len(joined), case, len(case), proof, len(proof), out, len(out), ctypes.byref(needed)
+        )
+        if status != _ROOM:
+            break
+        out = ctypes.create_string_buffer(needed.value)
+    text = ctypes.string_at(out, needed.value)
+    _rooms.room = room
+    return status, text

@@ -1,0 +1,236 @@
+"""Numbers: how a number of Python becomes an exact fraction, and the one function that writes it for the program.
+
+A Fraction, an int, a Decimal and a text are taken as they are. A double is read by this rule, which R has too. Its rounding
+interval are the rationals that round to it. It is read as
+
+1. the fraction of the interval with the least denominator, if that is at most 10,000;
+2. else the multiple of 10^-j in the interval with the least j up to 30, of several the one nearest to the double, of two the one
+   with the even numerator;
+3. else the double rounded up to a multiple of 10^-30.
+
+So 1/3 is 1/3, 0.025 is 1/40, and 0.1 + 0.2, which is not the double 0.3, is 0.30000000000000004. A double below 0 or above 1, an
+infinite one and NaN have no reading.
+"""
+import re
+import struct
+import warnings
+from decimal import Decimal
+from fractions import Fraction
+from numbers import Rational
+from typing import Any, Iterator, Optional, Tuple, Union
+
+from ._library import kind_of
+
+Given = Union[Fraction, Decimal, str, int, float]
+
+LARGEST_DENOMINATOR = 10_000
+_DIGITS_OF_A_DOUBLE = 15
+# far above what a case may have, and below what Python turns into a whole number at once
+_MOST_CHARACTERS, _MOST_BITS = 4000, 4096
+_MOST_PLACES = 30
+
+_NUMERAL = re.compile(r"[+-]?(?:(?P<whole>[0-9]+)/(?P<parts>[0-9]+)"
+                      r"|(?P<before>[0-9]+)\.?(?P<after>[0-9]*)(?:[eE](?P<power>[+-]?[0-9]+))?"
+                      r"|\.(?P<only>[0-9]+)(?:[eE](?P<exponent>[+-]?[0-9]+))?)")
+
+# What an edge is written with: the tokens of an expression, and blanks.
+_EXPRESSION = re.compile(r"(?:[0-9.eE+\-*/()^ \t]|\\epsilon)*")
+
+
+
+class PrintedDoubleWarning(UserWarning):
+    """A text has the digits with which the double of a small fraction is printed, and is another number than the fraction."""
+
+
+# ---- doubles
+
+
+def _small_fraction(double: float) -> Optional[Fraction]:
+    """Returns the fraction with the least denominator in the interval of a double, if that is at most 10,000.
+
+    The interval is so narrow that such a fraction is a convergent of the double's continued fraction, and their denominators
+    rise. A quotient of two small whole numbers is rounded as a rational is.
+    """
+    over, under = double.as_integer_ratio()
+    n, d, n_before, d_before = 1, 0, 0, 1
+    while under:
+        quotient, rest = divmod(over, under)
+        n, d, n_before, d_before = quotient * n + n_before, quotient * d + d_before, n, d
+        if d > LARGEST_DENOMINATOR:
+            return None
+        if n / d == double:
+            return Fraction(n, d)
+        over, under = under, rest
+    return None
+
+
+def _interval(double: float) -> Tuple[int, int, int, bool, int]:
+    """Returns a double above 0 and the ends of its rounding interval, as low, double and high; whether the ends belong to it; and
+    the power of 2 that all three are divided by."""
+    (bits,) = struct.unpack(">Q", struct.pack(">d", double))
+    exponent, digits = bits >> 52, bits & (2**52 - 1)
+    mantissa = digits + (2**52 if exponent else 0)
+    # In quarters of the last place. Below a power of 2 the doubles are twice as dense.
+    below = 1 if digits == 0 and exponent > 1 else 2
+    return 4 * mantissa - below, 4 * mantissa, 4 * mantissa + 2, mantissa % 2 == 0, 1077 - max(exponent, 1)
+
+
+def _rounded(over: int, power: int) -> int:
+    """Returns the whole number nearest to over / 2^power, of two the even one."""
+    below, rest = over >> power, over & ((1 << power) - 1)
+    half = 1 << (power - 1)
+    return below + (rest > half or (rest == half and below % 2 == 1))
+
+
+def _short_decimal(double: float) -> Optional[Fraction]:
+    """Returns the decimal in the interval of a double with the fewest places, up to 30: the nearest, of two the even one."""
+    low, middle, high, closed, power = _interval(double)
+    for places in range(1, _MOST_PLACES + 1):
+        scale = 10**places
+        least = -(-low * scale >> power) if closed else (low * scale >> power) + 1
+        most = high * scale >> power if closed else -(-high * scale >> power) - 1
+        if least <= most:
+            return Fraction(min(max(_rounded(middle * scale, power), least), most), scale)
+    return None
+
+
+def read_double(double: float) -> Fraction:
+    """Returns the fraction that a double is read as. `ValueError`: it is not from 0 to 1."""
+    if not 0 <= double <= 1:
+        raise ValueError(f"{double!r} is not from 0 to 1")
+    if double == 0:
+        return Fraction(0)
+    found = _small_fraction(double) or _short_decimal(double)
+    if found is None:
+        over, under = double.as_integer_ratio()
+        found = Fraction(-(-over * 10**_MOST_PLACES // under), 10**_MOST_PLACES)
+    return found
+
+
+# ---- texts
+
+
+def value_of(text: str) -> Optional[Fraction]:
+    """Returns the value of a numeral; nothing for any other text, and for a decimal with more than 9,999 places."""
+    match = _NUMERAL.fullmatch(text)
+    if match is None:
+        return None
+    sign = -1 if text[0] == "-" else 1
+    if match["whole"] is not None:
+        parts = int(match["parts"])
+        return sign * Fraction(int(match["whole"]), parts) if parts else None
+    before, after = match["before"] or "", match["after"] or match["only"] or ""
+    digits = int(before + after)
+    power = int(match["power"] or match["exponent"] or 0) - len(after)
+    if digits == 0:
+        return Fraction(0)
+    if abs(power) > 9999:
+        return None
+    return sign * digits * Fraction(10)**power
+
+
+def fraction_text(fraction: Rational) -> str:
+    """Returns a fraction as the program reads it: n/d, or n if d is 1."""
+    n, d = int(fraction.numerator), int(fraction.denominator)
+    return str(n) if d == 1 else f"{n}/{d}"
+
+
+def printed_double(text: str) -> Optional[Fraction]:
+    """Returns the fraction that a text is the printed double of, if the text itself is another number: 1/3 for
+    "0.3333333333333333"."""
+    if len(text) < _DIGITS_OF_A_DOUBLE or value_of(text) is None or "/" in text:
+        return None
+    double = float(text)
+    found = _small_fraction(double) if 0 < double <= 1 and repr(double) == text else None
+    return None if found == value_of(text) else found
+
+
+def _texts(found: Any) -> Iterator[str]:
+    """Yields the texts in lists of lists."""
+    if isinstance(found, list):
+        for it in found:
+            yield from _texts(it)
+    elif isinstance(found, str):
+        yield found
+
+
+def plain(value: Any, place: str) -> Any:
+    """Returns what an array, or a scalar of numpy, holds, as lists and numbers of Python.
+
+    `TypeError`: its numbers have fewer digits than a double, so that they are not the doubles that they look like; or numpy has
+    turned doubles into texts, since there was a text among them.
+    """
+    dtype = getattr(value, "dtype", None)
+    kind = getattr(dtype, "kind", "")
+    if kind == "f" and getattr(dtype, "itemsize", 8) != 8:
+        raise TypeError(f"{place} is of type {dtype}, whose numbers are not doubles: give doubles, fractions or texts")
+    found = value.tolist()
+    if type(found) is type(value):
+        raise TypeError(f"{place} is a number, and not of type {kind_of(value)}")
+    for text in _texts(found) if kind == "U" else ():
+        if printed_double(text):
+            raise TypeError(f"{place} has the text {text!r}, which numpy made of the double {printed_double(text)}: give an array of "
+                            "doubles, or of objects")
+    return found
+
+
+def _warn_of_printed_double(text: str, place: str) -> None:
+    """Warns of a text that looks like a printed double of a fraction; it is taken as it is written."""
+    found = printed_double(text)
+    if found is not None:
+        warnings.warn(f"{place} is the text {text!r}, which is taken as it is written, and not as {found}, whose double is printed so",
+                      PrintedDoubleWarning, stacklevel=2)
+
+
+def numeral(value: Given, place: str) -> str:
+    """Returns a number as the program reads it. This is the one function that writes numbers.
+
+    `place` names the argument and the place in it, for the messages. `TypeError`: the value is not a number. `ValueError`: it has
+    no value, or is a double that is not from 0 to 1, or a text that is not one numeral.
+    """
+    if isinstance(value, bool) or value is None:
+        raise TypeError(f"{place} is a number, and not {value}")
+    if isinstance(value, float):
+        if not 0 <= value <= 1:
+            raise ValueError(f"{place} is {float(value)!r}, and not from 0 to 1")
+        return fraction_text(read_double(float(value)))
+    if isinstance(value, Rational):
+        if max(int(value.numerator).bit_length(), int(value.denominator).bit_length()) > _MOST_BITS:
+            raise ValueError(f"{place} has too many digits")
+        return fraction_text(value)
+    if isinstance(value, Decimal):
+        if not value.is_finite():
+            raise ValueError(f"{place} is {value}, and not from 0 to 1")
+        return numeral(str(value), place)
+    if isinstance(value, str):
+        text = value.strip(" \t")
+        if len(text) > _MOST_CHARACTERS:
+            raise ValueError(f"{place} has too many digits")
+        if not _NUMERAL.fullmatch(text):
+            raise ValueError(f"{place} is {value!r}, which is not a numeral: write 0.025, 1/40 or 2.5e-2")
+        _warn_of_printed_double(text, place)
+        return text
+    if callable(getattr(value, "tolist", None)) and getattr(value, "ndim", None) == 0:
+        return numeral(plain(value, place), place)
+    raise TypeError(f"{place} is a number, and not of type {kind_of(value)}")
+
+
+def expression(value: Given, place: str) -> str:
+    """Returns an edge as the program reads it: a number, or a text with `\\epsilon` such as `1-\\epsilon`.
+
+    `ValueError`: the text has a character that no expression has.
+    """
+    if not isinstance(value, str) or _NUMERAL.fullmatch(value.strip(" \t")):
+        return numeral(value, place)
+    if not value.strip(" \t") or not _EXPRESSION.fullmatch(value):
+        raise ValueError(f"{place} is {value!r}, which is not an edge: write 1/2, 1-\\epsilon or 1/2*\\epsilon^2")
+    return value.strip(" \t")
+
+
+def whole(value: Any, place: str) -> int:
+    """Returns a whole number. `TypeError`: the value is none; a double is none either."""
+    if callable(getattr(value, "tolist", None)) and getattr(value, "ndim", None) == 0:
+        value = plain(value, place)
+    if isinstance(value, bool) or not isinstance(value, int):
+        raise TypeError(f"{place} is a whole number, and not {value!r}")
+    return value
