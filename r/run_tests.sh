@@ -2,21 +2,26 @@
 # Builds the package and runs R CMD check with its tests. A way to the proved call has to be there:
 # - the C library, in the folders that WELUNGAD_INCLUDE and WELUNGAD_LIB name, else under WELUNGAD_PREFIX, else in c/out;
 # - the program, which WELUNGAD names, else crates/welungad/out/welungad, else that of WELUNGAD_PREFIX, else that of the path.
-# Prints a line and ends with 77 if R or a package is missing; ends with another status if a test fails.
+# Without knitr, rmarkdown or pandoc the vignettes are left out. Prints a line and ends with 77 if R or another package is missing;
+# ends with another status if a test fails.
 set -eu
 here=$(dirname -- "$(readlink -f -- "$0")")
-top=$(dirname "$here")
+top=$(dirname -- "$here")
 
 skip() {
     echo "r/run_tests.sh: skipped, since $1"
     exit 77
 }
 
+has_package() {
+    Rscript --vanilla -e "quit(status = !requireNamespace('$1', quietly = TRUE))" >/dev/null 2>&1
+}
+
 for tool in R Rscript; do
     command -v "$tool" >/dev/null || skip "$tool is missing"
 done
 for package in gmp testthat; do
-    Rscript --vanilla -e "quit(status = !requireNamespace('$package', quietly = TRUE))" >/dev/null 2>&1 || skip "the R package $package is missing"
+    has_package "$package" || skip "the R package $package is missing"
 done
 
 # the program
@@ -39,15 +44,27 @@ if [ -z "$WELUNGAD" ] && [ -z "${WELUNGAD_LIB-}${WELUNGAD_PREFIX-}" ]; then
 fi
 export WELUNGAD_EXAMPLES="$top/examples"
 
+# the vignettes
+vignettes=yes
+command -v pandoc >/dev/null || vignettes=
+for package in knitr rmarkdown; do
+    has_package "$package" || vignettes=
+done
+without=
+if [ -z "$vignettes" ]; then
+    echo "r/run_tests.sh: the vignettes are left out, since knitr, rmarkdown or pandoc is missing"
+    without=yes
+fi
+
 room=$(mktemp -d)
 trap 'rm -rf "$room"' EXIT
 cp -R "$here" "$room/welungad"
 cd "$room"
-R CMD build welungad >build.log 2>&1 || { cat build.log; exit 1; }
+R CMD build ${without:+--no-build-vignettes} welungad >build.log 2>&1 || { cat build.log; exit 1; }
 
 # The check wants none of the package index, and runs the tests.
 status=0
-_R_CHECK_FORCE_SUGGESTS_=false _R_CHECK_CRAN_INCOMING_=false R CMD check --no-manual welungad_*.tar.gz >check.log 2>&1 || status=$?
+_R_CHECK_FORCE_SUGGESTS_=false _R_CHECK_CRAN_INCOMING_=false R CMD check --no-manual ${without:+--ignore-vignettes} welungad_*.tar.gz >check.log 2>&1 || status=$?
 grep -q -E '^Status: .*(WARNING|ERROR)' check.log && status=1
 if [ "$status" -ne 0 ]; then
     cat check.log

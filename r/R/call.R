@@ -8,7 +8,7 @@ welungad_way <- function() {
   wish <- getOption("welungad.way")
   if (is.null(wish)) return(if (has_library()) "library" else if (nzchar(program_path())) "program" else "")
   if (!is.character(wish) || length(wish) != 1 || !wish %in% c("library", "program")) {
-    stop("the option welungad.way is \"library\" or \"program\"", call. = FALSE)
+    stop_at("the option welungad.way", "\"library\" or \"program\" is needed")
   }
   if (wish %in% welungad_ways()) wish else ""
 }
@@ -27,49 +27,60 @@ program_path <- function() {
 
 welungad_run <- function(words, case = "", proof = "") {
   words <- enc2utf8(as.character(words))
-  case <- bytes_of(case)
-  proof <- bytes_of(proof)
+  if (anyNA(words)) stop_at("words", "a word is NA")
+  case <- bytes_of(case, "case")
+  proof <- bytes_of(proof, "proof")
   switch(welungad_way(),
     library = .Call(C_welungad_call, words, case, proof),
     program = run_program(program_path(), words, case, proof),
-    stop("neither the C library nor the program welungad is found: let the environment variable WELUNGAD name the program, ",
-      "or put it on the path", call. = FALSE)
+    stop("neither the C library nor the program welungad is found: ", how_to_find_program, call. = FALSE)
   )
 }
 
+how_to_find_program <- "let the environment variable WELUNGAD name the program, or put it on the path"
+
 # A raw vector as it is, one text as it is, several texts as lines.
-bytes_of <- function(x) {
+bytes_of <- function(x, what) {
   if (is.raw(x)) return(x)
-  if (!is.character(x)) stop("a case or a proof is a raw vector, a text or lines", call. = FALSE)
+  if (!is.character(x) || anyNA(x)) stop_at(what, "a raw vector, a text or lines are needed")
   charToRaw(if (length(x) == 1) enc2utf8(x) else paste0(enc2utf8(x), "\n", collapse = ""))
 }
 
-# Runs the program as a process. The word after check names the file of the proof.
+# Runs the program as a process. The word that names the file of the proof is replaced by the name of a file that has it.
 run_program <- function(program, words, case, proof) {
   place <- tempfile("welungad-")
   files <- paste0(place, c("-case", "-proof", "-text"))
   on.exit(unlink(files))
   writeBin(case, files[1])
-  if (length(words) >= 2 && words[1] == "check") {
+  at <- file_word(words)
+  if (!is.na(at)) {
     writeBin(proof, files[2])
-    words[2] <- files[2]
+    words[at] <- files[2]
   }
-  quoted <- if (length(words)) shQuote(words) else character()
-  status <- suppressWarnings(system2(program, quoted, stdin = files[1], stdout = files[3], stderr = FALSE))
-  if (!status %in% 0:10) stop("the program ", program, " can't be run", call. = FALSE)
-  list(status = as.integer(status), text = text_of_file(files[3]))
+  status <- start_program(program, words, files[1], files[3])
+  list(status = status, text = text_of_file(files[3]))
+}
+
+# The place of the word that names the file of the proof: after check the first word that is neither an option nor its value.
+file_word <- function(words) {
+  if (length(words) < 2 || words[1] != "check") return(NA_integer_)
+  at <- 2L
+  while (at <= length(words) && startsWith(words[at], "--")) at <- at + if (grepl("=", words[at], fixed = TRUE)) 1L else 2L
+  if (at <= length(words)) at else NA_integer_
+}
+
+# Starts the program and returns its status. The shell reports a program that a signal ended as 128 and the signal's number.
+start_program <- function(program, words, input, output) {
+  script <- "\"$@\"; exit $?"
+  quoted <- shQuote(c("-c", script, "sh", program, words))
+  status <- suppressWarnings(system2("/bin/sh", quoted, stdin = input, stdout = output, stderr = FALSE))
+  if (status > 128 && status < 160) stop("the program ", program, " was ended by signal ", status - 128, call. = FALSE)
+  if (!status %in% 0:10) stop("the program ", program, " can't be run: it ends with ", status, call. = FALSE)
+  as.integer(status)
 }
 
 text_of_file <- function(path) {
   text <- rawToChar(readBin(path, "raw", file.size(path)))
   Encoding(text) <- "UTF-8"
   text
-}
-
-# The lines of the answer to a call. A status of 2 or more is a refusal, whose amount `reading` gives.
-ask <- function(words, case = "", proof = "", reading = NULL) {
-  answer <- welungad_run(words, case, proof)
-  lines <- strsplit(answer$text, "\n", fixed = TRUE)[[1]]
-  if (answer$status >= 2) refuse(answer$status, if (length(lines)) lines[1] else "", amount_of(lines, reading))
-  lines
 }

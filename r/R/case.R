@@ -2,36 +2,55 @@
 
 default_alpha <- "1/40"
 
+# What is handed in: a text, and the graph whose names and labels it has. Further parts are what a staged case spends (`levels`)
+# and its looks, and the version of a document of evidence.
+handed <- function(text, graph = NULL, ...) list(text = text, graph = graph, ...)
+
 # The lines of a component; an edge that is 0 has no line.
 component_lines <- function(component, names, one) {
   edges <- component$edges
-  from <- row(edges)
-  to <- col(edges)
+  at <- which(!edges %in% c("0", "0/1"))
+  from <- row(edges)[at]
+  to <- col(edges)[at]
   ahead <- order(from, to)
-  ahead <- ahead[!edges[ahead] %in% c("0", "0/1")]
   c(
     if (!one || component$share != "1") paste("component", component$share),
     paste(c("weights", component$weights), collapse = " "),
-    if (length(ahead)) paste("edge", names[from[ahead]], names[to[ahead]], edges[ahead])
+    if (length(at)) paste("edge", names[from[ahead]], names[to[ahead]], edges[at[ahead]])
   )
 }
 
-# The text of a case, a line for each part.
-case_text <- function(graph, alpha = default_alpha, p = NULL, stages = NULL) {
-  lines <- c(
-    paste("alpha", alpha),
-    paste(c("hypotheses", graph$names), collapse = " "),
-    if (!is.null(p)) paste(c("p", p), collapse = " "),
-    unlist(lapply(graph$components, component_lines, names = graph$names, one = length(graph$components) == 1)),
-    stages
+# The text of the names and the graph of a case. The graph keeps it, with the names and components that it was made of: a graph
+# that was changed since then is written anew.
+graph_text <- function(graph) {
+  kept <- graph$written
+  if (!is.null(kept) && identical(kept$names, graph$names) && identical(kept$components, graph$components)) return(kept)
+  write_graph(graph)
+}
+
+write_graph <- function(graph) {
+  one <- length(graph$components) == 1
+  lines <- unlist(lapply(graph$components, component_lines, names = graph$names, one = one))
+  list(
+    names = graph$names,
+    components = graph$components,
+    head = paste0(paste(c("hypotheses", graph$names), collapse = " "), "\n"),
+    body = paste0(lines, "\n", collapse = "")
   )
-  paste0(lines, "\n", collapse = "")
+}
+
+# The text of a case.
+case_text <- function(graph, alpha = default_alpha, p = NULL, stages = NULL) {
+  parts <- graph_text(graph)
+  p <- if (!is.null(p)) paste0("p ", paste(p, collapse = " "), "\n")
+  stages <- if (!is.null(stages)) paste0(stages, "\n", collapse = "")
+  paste0("alpha ", alpha, "\n", parts$head, p, parts$body, stages)
 }
 
 # The rest of the first line that begins with this word, as words.
 words_after <- function(lines, word) {
   found <- lines[startsWith(lines, paste0(word, " ")) | lines == word]
-  if (length(found) == 0) character() else strsplit(found[1], " ", fixed = TRUE)[[1]][-1]
+  if (length(found) == 0) character() else words_after_first(found[1])
 }
 
 # The lines of the blocks of components of a canonical text, one block after the other.
@@ -44,11 +63,13 @@ blocks_of <- function(lines) {
 # A component of a canonical text.
 component_of <- function(lines, names) {
   share <- words_after(lines, "component")
+  weights <- words_after(lines, "weights")
   edges <- matrix("0", length(names), length(names), dimnames = list(names, names))
-  for (words in strsplit(lines[startsWith(lines, "edge ")], " ", fixed = TRUE)) edges[words[2], words[3]] <- words[4]
+  words <- columns_of(lines[startsWith(lines, "edge ")], 4L)
+  edges[cbind(match(words[2, ], names), match(words[3, ], names))] <- words[4, ]
   list(
     share = if (length(share)) share else "1",
-    weights = stats::setNames(words_after(lines, "weights"), names),
+    weights = if (length(weights) == length(names)) stats::setNames(weights, names) else weights,
     edges = edges
   )
 }
@@ -60,7 +81,7 @@ parse_case <- function(lines) {
   list(
     alpha = words_after(lines, "alpha"),
     names = names,
-    p = if (length(p)) stats::setNames(p, names),
+    p = if (length(p) == length(names)) stats::setNames(p, names) else if (length(p)) p,
     components = unname(lapply(blocks_of(lines), component_of, names = names)),
     stages = lines[grepl("^(stages|spend|table|arrive) ", lines)]
   )
@@ -69,7 +90,16 @@ parse_case <- function(lines) {
 # An edge in the spelling of the program. A numeral keeps its own.
 canonical_edge <- function(text) {
   if (!is.na(numeral_value(text))) return(as.character(numeral_value(text)))
-  lines <- ask("canon", c("alpha 1/40", "hypotheses a b", "weights 1 0", paste("edge a b", text)))
-  edge <- words_after(lines, "edge")
-  if (length(edge)) edge[3] else "0"
+  pair <- list(names = c("a", "b"), labels = c("a", "b"))
+  lines <- paste0("alpha 1/40\nhypotheses a b\nweights 1 0\nedge a b ", text, "\n")
+  ask("canon", handed(lines, pair))$components[[1]]$edges[1, 2]
+}
+
+# Components with labels in place of the program's names.
+labelled <- function(components, labels) {
+  lapply(components, function(it) {
+    names(it$weights) <- labels
+    dimnames(it$edges) <- list(labels, labels)
+    it
+  })
 }

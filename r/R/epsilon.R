@@ -99,9 +99,9 @@ Ops.welungad_quotients <- function(e1, e2) {
   if (.Generic == "==") as.logical(unlist(out)) else quotients(out)
 }
 
-# The sum of numbers of either kind.
+# The sum of numbers of either kind; NA if one is.
 sum_of <- function(x) {
-  if (!is_quotients(x)) return(if (length(x)) sum(x) else gmp::as.bigq(0))
+  if (!is_quotients(x)) return(if (length(x) == 0) gmp::as.bigq(0) else if (anyNA(x)) gmp::NA_bigq_ else sum(x))
   quotients(list(Reduce(add_quotients, unclass(x), quotient(gmp::as.bigq(0)))))
 }
 

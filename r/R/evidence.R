@@ -3,47 +3,42 @@
 graph_evidence <- function(graph, p, alpha = 0.025, priority = c("first", "last", "ratio")) {
   priority <- match.arg(priority)
   case <- case_of(graph, p, alpha)
-  lines <- ask(c("evidence", if (priority != "first") c("--priority", priority)), case$text, reading = reading_of(graph))
-  structure(list(
-    evidence = lines,
-    case = ask("canon", case$text)
-  ), class = "welungad_evidence")
+  evidence <- ask(c("evidence", if (priority != "first") c("--priority", priority)), case)
+  structure(list(evidence = evidence$lines, case = ask("canon", case)$lines, graph = graph), class = "welungad_evidence")
 }
 
 graph_check <- function(graph, p, alpha = 0.025, evidence) {
   case <- case_of(graph, p, alpha)
-  check_case(case$text, evidence, reading_of(graph))
-}
-
-# The check of a document for the text of a case.
-check_case <- function(case, evidence, reading = NULL) {
   if (inherits(evidence, "welungad_evidence")) evidence <- evidence$evidence
-  lines <- ask(c("check", "evidence"), case, paste0(evidence, "\n", collapse = ""), reading)
+  if (!is.character(evidence) || anyNA(evidence) || length(evidence) == 0) stop_at("evidence", "a result of graph_evidence or the lines of a document are needed")
+  case$version <- if (grepl("^\\s*evidence\\s+1\\s*$", evidence[1])) 1L else 2L
+  found <- ask(c("check", "evidence"), case, paste0(evidence, "\n", collapse = ""))
   structure(list(
-    yes = lines[1] == "yes",
-    listed = words_after(lines, "listed"),
-    kept = words_after(lines, "kept"),
-    reason = if (lines[1] == "yes") "" else sub("^no: ", "", lines[1]),
-    report = lines
+    yes = found$yes,
+    listed = label_of(found$listed, graph),
+    kept = label_of(found$kept, graph),
+    reason = found$reason,
+    report = found$lines
   ), class = "welungad_check")
 }
+
+format.welungad_evidence <- function(x, ...) x$evidence
 
 print.welungad_evidence <- function(x, ...) {
   cat("Evidence for a decision\n")
   cat(x$evidence, sep = "\n")
+  print_names(x$graph)
   invisible(x)
 }
 
 as.data.frame.welungad_evidence <- function(x, ...) data.frame(line = x$evidence, stringsAsFactors = FALSE)
 
+format.welungad_check <- function(x, ...) if (x$yes) "The evidence holds." else paste0("The evidence does not hold: ", x$reason)
+
 print.welungad_check <- function(x, ...) {
-  if (x$yes) {
-    cat("The evidence holds.\n")
-    cat("The closed test rejects: ", if (length(x$listed)) paste(x$listed, collapse = ", ") else "none", "\n", sep = "")
-    if (length(x$kept)) cat("It does not reject: ", paste(x$kept, collapse = ", "), "\n", sep = "")
-  } else {
-    cat("The evidence does not hold: ", x$reason, "\n", sep = "")
-  }
+  cat(format(x), "\n", sep = "")
+  if (x$yes) cat("The closed test rejects: ", if (length(x$listed)) paste(x$listed, collapse = ", ") else "none", "\n", sep = "")
+  if (length(x$kept)) cat("It does not reject: ", paste(x$kept, collapse = ", "), "\n", sep = "")
   invisible(x)
 }
 

@@ -2,7 +2,8 @@
 
 # The exact fractions of numerals, NA for other texts. Fractions as the program prints them take the short way.
 fraction <- function(text) {
-  plain <- !is.na(text) & grepl("^-?[0-9]+(/[1-9][0-9]*)?$", text)
+  if (length(text) == 0) return(gmp::as.bigq(character()))
+  plain <- !is.na(text) & grepl("^-?[0-9]+(/[1-9][0-9]*)?\\z", text, perl = TRUE)
   if (all(plain)) return(gmp::as.bigq(unname(text)))
   parts <- lapply(text, function(t) if (is.na(t)) gmp::NA_bigq_ else numeral_value(t))
   do.call(c, parts)
@@ -18,8 +19,30 @@ as_double <- function(x) {
   out
 }
 
-# The doubles of fractions in texts.
-double_of <- function(text) if (length(text) == 0) numeric() else as_double(fraction(text))
+# The doubles of numerals in texts, NA for other texts. Parts of at most 15 digits are doubles, and need no gmp.
+double_of <- function(text) {
+  slash <- regexpr("/", text, fixed = TRUE)
+  has <- which(slash > 0)
+  if (length(has) == 0) return(double_of_decimal(text))
+  n <- substr(text[has], 1L, slash[has] - 1L)
+  d <- substring(text[has], slash[has] + 1L)
+  long <- nchar(n) > 15L | nchar(d) > 15L
+  quotients <- numeric(length(has))
+  quotients[!long] <- as.numeric(n[!long]) / as.numeric(d[!long])
+  if (any(long)) quotients[long] <- as_double(fraction(text[has[long]]))
+  if (length(has) == length(text)) return(quotients)
+  out <- numeric(length(text))
+  out[has] <- quotients
+  out[-has] <- double_of_decimal(text[-has])
+  out
+}
+
+double_of_decimal <- function(text) {
+  out <- rep(NA_real_, length(text))
+  numeral <- is_numeral(text)
+  out[numeral] <- as.numeric(text[numeral])
+  out
+}
 
 # The whole decimal of a fraction if it ends within 60 places; else the fraction.
 exact_decimal <- function(x) {

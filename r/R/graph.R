@@ -1,126 +1,202 @@
 # Graphs.
 
 graph_create <- function(hypotheses, transitions, hyp_names = NULL, labels = NULL) {
-  weights <- as_exact(hypotheses)
+  weights <- exact_vector(hypotheses, "hypotheses")
   n <- length(weights)
-  given <- hyp_names
-  if (is.null(given)) given <- names_of(hypotheses)
-  if (is.null(given)) given <- rownames(transitions)
-  if (is.null(given)) given <- paste0("H", seq_len(n))
-  given <- as.character(given)
-  if (length(given) != n) stop("give one name for each hypothesis", call. = FALSE)
-  edges <- edge_texts(transitions, given)
-  names <- names_for(given)
-  component <- list(
-    share = "1",
-    weights = stats::setNames(as_text(weights$read), names),
-    edges = matrix(as_text(edges$read), n, n, dimnames = list(names, names))
-  )
-  labels <- if (is.null(labels)) given else as.character(labels)
-  if (length(labels) != n) stop("give one label for each hypothesis", call. = FALSE)
+  edges <- exact_square(transitions, "transitions", n)
+  given <- given_names(weights, edges, hyp_names)
+  labels <- given_labels(labels, given)
+  names <- names_for(given, labels)
+  check_labels(names, labels)
+  keys <- unique(list(given, labels, names))
+  weights <- arranged(weights, keys, "hypotheses")
+  edges <- arranged_square(edges, keys, "transitions")
+  component <- list(share = "1", weights = number_texts(weights, "hypotheses"),
+    edges = matrix(edge_texts(edges, "transitions"), n, n))
   new_graph(names, labels, list(component), unique(rbind(as_read(weights), as_read(edges))))
 }
 
-names_of <- function(x) if (inherits(x, "welungad_exact")) x$names else names(x)
+# The names that the user gives: `hyp_names`, else those of the weights, of the rows or of the columns, else H1, H2 and so on.
+given_names <- function(weights, edges, hyp_names) {
+  n <- length(weights)
+  sources <- list(hyp_names = hyp_names, hypotheses = weights$names, transitions = edges$dimnames[[1]], transitions = edges$dimnames[[2]])
+  sources <- sources[!vapply(sources, is.null, NA)]
+  if (length(sources) == 0) return(if (n) paste0("H", whole_text(seq_len(n))) else character())
+  given <- as.character(sources[[1]])
+  if (length(given) != n) stop_at(names(sources)[1], "one name is needed for each hypothesis")
+  check_distinct(given, names(sources)[1])
+  given
+}
+
+# The labels; those with names are put in order by them.
+given_labels <- function(labels, given) {
+  if (is.null(labels)) return(given)
+  own <- names(labels)
+  labels <- as.character(labels)
+  if (length(labels) != length(given)) stop_at("labels", "one label is needed for each hypothesis")
+  check_distinct(labels, "labels")
+  names(labels) <- own
+  unname(arranged(labels, list(given), "labels"))
+}
 
 # A missing number is handed in as NA, which the proved call refuses.
 as_text <- function(read) ifelse(is.na(read), "NA", read)
 
-# The edges by columns, from a square matrix whose names, if it has any, are those of the hypotheses.
-edge_texts <- function(transitions, names) {
-  if (is.data.frame(transitions)) transitions <- as.matrix(transitions)
-  if (!identical(as.integer(dim(transitions)), rep(length(names), 2))) {
-    stop("transitions is a square matrix with a row and a column for each hypothesis", call. = FALSE)
+# The texts of numbers as they are handed in: each element is one word.
+number_texts <- function(x, what) {
+  texts <- as_text(x$read)
+  wrong <- which(!nzchar(texts) | grepl("[[:space:][:cntrl:]]", texts))
+  if (length(wrong)) stop_at(what, place_text(wrong[1], x$names), " is ", quoted(texts[wrong[1]]), ", which is not one number")
+  texts
+}
+
+# The same of edges, which may be expressions with blanks; zeros are written as 0.
+edge_texts <- function(x, what) {
+  texts <- as_text(x$read)
+  wrong <- which(!nzchar(texts) | grepl("[\r\n\v\f]", texts))
+  if (length(wrong)) {
+    place <- element_texts(x)[wrong[1]]
+    stop_at(what, "the edge at ", place, " is ", quoted(texts[wrong[1]]), ", which is neither a number nor an expression")
   }
-  for (own in dimnames(transitions)) {
-    if (!is.null(own) && !identical(own, names)) {
-      stop("the rows and columns of transitions are named as the hypotheses, in their order", call. = FALSE)
-    }
-  }
-  as_exact(if (inherits(transitions, c("bigq", "bigz"))) transitions else as.vector(transitions))
+  texts[grepl("^[-+]?0*[.]?0*(/[0-9]*[1-9][0-9]*)?\\z", texts, perl = TRUE) & grepl("0", texts, fixed = TRUE)] <- "0"
+  texts
 }
 
 as_read <- function(x) unique(data.frame(given = x$given, read = x$read, rule = x$rule, stringsAsFactors = FALSE))
 
-# Lets the proved call read a graph, and keeps the canonical spelling. The given spelling stays for the amounts of refusals.
+# Lets the proved call read a graph, and keeps the canonical spelling, and the text that is handed in for it.
 new_graph <- function(names, labels, components, read = NULL) {
   given <- structure(list(names = names, labels = labels, components = components), class = "welungad_graph")
-  lines <- ask("canon", case_text(given), reading = reading_of(given))
-  structure(list(
-    names = names,
-    labels = labels,
-    components = parse_case(lines)$components,
-    read = read
-  ), class = "welungad_graph")
-}
-
-# The numbers of a graph as the amounts of refusals need them.
-reading_of <- function(graph, levels = NULL) {
-  list(
-    shares = vapply(graph$components, `[[`, "", "share"),
-    weights = lapply(graph$components, `[[`, "weights"),
-    edges = lapply(graph$components, `[[`, "edges"),
-    levels = levels
-  )
+  canon <- ask("canon", handed(case_text(given), given))
+  graph <- list(names = names, labels = labels, components = labelled(canon$components, labels), read = read)
+  graph$written <- write_graph(graph)
+  structure(graph, class = "welungad_graph")
 }
 
 graph_entangle <- function(..., shares) {
   graphs <- list(...)
   if (length(graphs) == 1 && is.list(graphs[[1]]) && !inherits(graphs[[1]], "welungad_graph")) graphs <- graphs[[1]]
   if (!length(graphs) || !all(vapply(graphs, inherits, NA, "welungad_graph"))) {
-    stop("graph_entangle takes graphs, as graph_create makes them", call. = FALSE)
+    stop_at("...", "graphs are needed, as graph_create makes them")
   }
   first <- graphs[[1]]
   for (graph in graphs) {
-    if (!identical(graph$names, first$names)) stop("the graphs have the same hypotheses in the same order", call. = FALSE)
-    if (length(graph$components) != 1) stop("a graph that is entangled already can't be entangled again", call. = FALSE)
+    if (!identical(graph[c("names", "labels")], first[c("names", "labels")])) stop_at("...", "the graphs have the same hypotheses in the same order")
+    if (length(graph$components) != 1) stop_at("...", "a graph that is entangled already can't be entangled again")
   }
-  shares <- as_exact(shares)
-  if (length(shares) != length(graphs)) stop("give one share for each graph", call. = FALSE)
+  shares <- arranged_shares(shares, graphs)
   components <- Map(function(graph, share) {
     component <- graph$components[[1]]
     component$share <- share
     component
-  }, graphs, as_text(shares$read))
+  }, graphs, number_texts(shares, "shares"))
   read <- do.call(rbind, c(list(as_read(shares)), lapply(graphs, `[[`, "read")))
   new_graph(first$names, first$labels, unname(components), read)
 }
 
+# The shares in the order of the graphs, by the names of both if the shares have names.
+arranged_shares <- function(shares, graphs) {
+  shares <- exact_vector(shares, "shares")
+  if (length(shares) != length(graphs)) stop_at("shares", "one share is needed for each graph")
+  if (is.null(shares$names)) return(shares)
+  if (is.null(names(graphs))) stop_at("shares", "the shares have names, and the graphs have none")
+  check_distinct(names(graphs), "...")
+  arranged(shares, list(names(graphs)), "shares")
+}
+
+catalogue_names <- c("holm", "fixed-sequence", "fallback", "parallel", "improved-parallel")
+
 graph_catalogue <- function(name, size, second = NULL) {
-  words <- c("catalogue", name, "--size", format(size), if (!is.null(second)) c("--second", format(second)))
-  case <- parse_case(ask(words))
+  name <- match.arg(name, catalogue_names)
+  if ((name %in% c("parallel", "improved-parallel")) == is.null(second)) {
+    stop_at("second", "the number of secondary hypotheses is ", if (is.null(second)) "needed" else "not used", " for ", name)
+  }
+  numbers <- list(size = size, second = second)
+  sizes <- lapply(names(numbers), function(what) {
+    if (is.null(numbers[[what]])) return(NULL)
+    if (length(numbers[[what]]) != 1) stop_at(what, "one number is needed")
+    c(paste0("--", what), whole_text(whole_numbers(numbers[[what]], what)))
+  })
+  case <- ask(c("catalogue", name, unlist(sizes)), handed("", list()))
   new_graph(case$names, case$names, case$components)
 }
 
 graph_read <- function(file, form = c("text", "csv", "json"), alpha = NULL) {
   form <- match.arg(form)
+  if (!is.character(file) || length(file) != 1 || !file.exists(file) || dir.exists(file)) {
+    stop_at("file", "there is no file ", if (is.character(file)) quoted(file[1]) else "of this name")
+  }
   bytes <- readBin(file, "raw", file.size(file))
-  words <- c("canon", if (form != "text") c("--form", form), if (!is.null(alpha)) c("--alpha", as_exact(alpha)$read))
-  case <- parse_case(ask(words, bytes))
+  words <- c("canon", if (form != "text") c("--form", form), if (!is.null(alpha)) c("--alpha", level_of(alpha)))
+  case <- ask(words, handed(bytes))
   graph <- new_graph(case$names, case$names, case$components)
   list(graph = graph, alpha = case$alpha, p = case$p, stages = case$stages)
 }
 
-graph_canon <- function(graph, p = NULL, alpha = 0.025) {
-  case <- case_of(graph, p, alpha)
-  ask("canon", case$text, reading = reading_of(graph))
-}
+graph_canon <- function(graph, p = NULL, alpha = 0.025) ask("canon", case_of(graph, p, alpha))$lines
 
-# A case of a graph, its p-values and its level, as it is handed in.
+# A case of a graph, its p-values and its level, as it is handed in, with the numbers as they were read.
 case_of <- function(graph, p, alpha) {
   check_graph(graph)
-  alpha <- as_exact(alpha)
-  if (length(alpha) != 1) stop("alpha is one level", call. = FALSE)
+  level <- exact_of(alpha, "alpha")
+  case <- list(alpha = level)
   if (!is.null(p)) {
-    p <- read_p(in_order(p, graph, "the p-values"), graph$labels)
-    missing <- which(is.na(p$read))
-    if (length(missing)) refuse(3L, paste("malformed: case: p missing", graph$names[missing[1]]))
+    case$p <- read_p(arranged(exact_vector(p, "p"), hypothesis_keys(graph), "p"), graph)
+    p <- number_texts(case$p, "p")
   }
-  list(text = case_text(graph, as_text(alpha$read), p$read), alpha = alpha, p = p)
+  case$text <- case_text(graph, level_text_of(level), p)
+  case$graph <- graph
+  case
+}
+
+# A level as it is handed in.
+level_of <- function(alpha) level_text_of(exact_vector(alpha, "alpha"))
+
+level_text_of <- function(level) {
+  if (length(level$read) != 1) stop_at("alpha", "one level is needed")
+  number_texts(level, "alpha")
+}
+
+# P-values in the order of the graph as they are handed in. None is missing. A double whose denominator would pass 10^30 is
+# rounded up to a multiple of 10^-30.
+read_p <- function(p, graph) {
+  missing <- which(is.na(p$read))
+  if (length(missing) && length(p) == length(graph$names)) {
+    where <- sprintf("p: the p-value of %s is missing", graph$labels[missing[1]])
+    refuse(3L, paste("malformed: case: p missing", graph$names[missing[1]]), where = where)
+  }
+  if (any(p$rule == "shortest decimal")) round_small(p, graph$labels) else p
+}
+
+# Only numbers below 10^-12 are tested: a shortest decimal has at most 17 digits.
+round_small <- function(p, labels) {
+  decimals <- which(p$rule == "shortest decimal")
+  for (i in decimals[abs(as.numeric(p$read[decimals])) < 1e-12]) {
+    value <- fraction(p$read[i])
+    limit <- ten_to(30)
+    if (value > 0 && gmp::denominator(value) > limit) {
+      p$read[i] <- as.character(round_up(value, limit))
+      p$rule[i] <- "rounded up to a multiple of 10^-30"
+      report_rounded(labels[i], p$given[i], p$read[i])
+    }
+  }
+  p
+}
+
+# The least multiple of 1/parts that is not below the value.
+round_up <- function(value, parts) {
+  n <- gmp::numerator(value) * parts
+  d <- gmp::denominator(value)
+  gmp::as.bigq((n + d - 1) %/% d, parts)
+}
+
+report_rounded <- function(label, given, read) {
+  text <- sprintf("The p-value %s of %s was rounded up to %s, a multiple of 10^-30.\n", given, label, read)
+  message(structure(class = c("welungad_rounded", "message", "condition"), list(message = text, call = NULL)))
 }
 
 check_graph <- function(graph) {
-  if (!inherits(graph, "welungad_graph")) stop("the graph is one that graph_create or graph_entangle made", call. = FALSE)
+  if (!inherits(graph, "welungad_graph")) stop_at("graph", "a graph is needed that graph_create or graph_entangle made")
 }
 
 has_epsilon <- function(graph) any(grepl(epsilon, unlist(graph$components), fixed = TRUE))
@@ -134,24 +210,34 @@ as.data.frame.welungad_graph <- function(x, ..., exact = FALSE) {
     weights <- component$weights
     if (!exact && !has_epsilon(x)) {
       weights <- double_of(weights)
-      edges[] <- double_of(edges)
-      storage.mode(edges) <- "double"
+      edges <- matrix(double_of(as.vector(edges)), nrow(edges), dimnames = dimnames(edges))
     }
-    columns <- data.frame(edges, check.names = FALSE, row.names = NULL, stringsAsFactors = FALSE)
-    cbind(data.frame(component = c, share = component$share, hypothesis = x$labels, weight = unname(weights),
-      stringsAsFactors = FALSE), columns)
+    columns <- data.frame(unname(edges), row.names = NULL, stringsAsFactors = FALSE)
+    names(columns) <- x$labels
+    cbind(data.frame(component = rep(c, length(weights)), share = rep(component$share, length(weights)), hypothesis = x$labels,
+      weight = unname(weights), stringsAsFactors = FALSE), columns)
   })
   do.call(rbind, parts)
 }
 
-print.welungad_graph <- function(x, ...) {
+format.welungad_graph <- function(x, ...) {
   n <- length(x$names)
   components <- length(x$components)
-  cat("Graph of ", n, if (n == 1) " hypothesis" else " hypotheses", sep = "")
-  if (components > 1) cat(" with", components, "components")
-  cat("\n")
+  paste0("Graph of ", n, if (n == 1) " hypothesis" else " hypotheses", if (components > 1) paste(" with", components, "components"))
+}
+
+# A row for each hypothesis: its weight over all graphs, and how many edges leave it and lead to it.
+summary.welungad_graph <- function(object, ...) {
+  edges <- lapply(object$components, function(it) it$edges != "0")
+  any_edge <- Reduce(`|`, edges)
+  data.frame(hypothesis = object$labels, weight = double_of(total_weights(object)), edges_from = unname(rowSums(any_edge)),
+    edges_to = unname(colSums(any_edge)), stringsAsFactors = FALSE)
+}
+
+print.welungad_graph <- function(x, ...) {
+  cat(format(x), "\n", sep = "")
   for (component in x$components) {
-    if (components > 1) cat("Share ", component$share, "\n", sep = "")
+    if (length(x$components) > 1) cat("Share ", component$share, "\n", sep = "")
     write_table(graph_table(component, x$labels))
   }
   print_names(x)
@@ -161,20 +247,11 @@ print.welungad_graph <- function(x, ...) {
 
 # The weights and the edges from row to column, zeros as points.
 graph_table <- function(component, labels) {
-  edges <- component$edges
+  edges <- unname(component$edges)
   edges[edges == "0"] <- "."
-  colnames(edges) <- labels
-  cbind(from = labels, weight = unname(component$weights), edges)
-}
-
-# Writes a matrix of texts in columns, the first flush left and the others flush right.
-write_table <- function(texts) {
-  all <- rbind(colnames(texts), unname(texts))
-  all[is.na(all)] <- ""
-  columns <- lapply(seq_len(ncol(all)), function(j) {
-    formatC(all[, j], width = max(nchar(all[, j])), flag = if (j == 1) "-" else "")
-  })
-  cat(sub(" +$", "", paste0("  ", do.call(paste, c(columns, sep = "  ")))), sep = "\n")
+  table <- cbind(labels, unname(component$weights), edges)
+  colnames(table) <- c("from", "weight", labels)
+  table
 }
 
 print_names <- function(x) {
@@ -188,13 +265,12 @@ print_read <- function(read, rule = character(), most = 10L) {
   if (is.null(read)) return(invisible())
   read <- unique(read[!is.na(read$read) & read$rule != "text", , drop = FALSE])
   if (nrow(read) == 0) return(invisible())
-  other <- fraction(read$given) != fraction(read$read)
+  other <- as.logical(fraction(read$given) != fraction(read$read))
+  decimal <- read$rule %in% rule & !other
   texts <- c(
     if (any(other)) paste(read$given[other], "as", shortened(read$read[other])),
-    if (any(read$rule %in% rule)) paste(read$given[read$rule %in% rule], "as this decimal")
+    if (any(decimal)) paste(read$given[decimal], "as this decimal")
   )
   if (length(texts) == 0) return(invisible())
-  more <- length(texts) - most
-  if (more > 0) texts <- c(texts[seq_len(most)], paste("and", more, "more"))
-  cat(strwrap(paste0("Read: ", paste(texts, collapse = ", ")), width = 100, exdent = 2), sep = "\n")
+  cat(strwrap(paste0("Read: ", listed(texts, most)), width = 100, exdent = 2), sep = "\n")
 }

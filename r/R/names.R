@@ -1,21 +1,29 @@
 # Names and labels. The program's names are 1 to 32 ASCII letters, digits, underscores, points and hyphens. Any text can be a
-# label; the name of such a label is made from it.
+# label; the name of such a label is made from it. Users see labels, and may give hypotheses by either.
 
 longest_name <- 32L
 
-is_name <- function(text) grepl("^[A-Za-z0-9_.-]{1,32}$", text, perl = TRUE)
+is_name <- function(text) grepl("^[A-Za-z0-9_.-]{1,32}\\z", text, perl = TRUE)
 
-# Names for labels: each label that is a name stays. Names that were made differ from all others.
-names_for <- function(labels) {
-  names <- labels
-  for (i in which(!is_name(labels))) names[i] <- made_name(labels[i], names[-i], i)
+# Stops unless the texts are different and none is missing or empty.
+check_distinct <- function(texts, what) {
+  empty <- which(is.na(texts) | !nzchar(texts))
+  if (length(empty)) stop_at(what, place_text(empty[1]), " has no name")
+  twice <- which(duplicated(texts))
+  if (length(twice)) stop_at(what, "the name ", quoted(texts[twice[1]]), " occurs twice")
+}
+
+# Names for labels: each label that is a name stays. Names that were made differ from all others, and from the labels.
+names_for <- function(given, labels = given) {
+  names <- given
+  for (i in which(!is_name(given))) names[i] <- made_name(given[i], c(names[-i], labels[-i]), i)
   names
 }
 
 made_name <- function(label, taken, i) {
   stem <- gsub("[^A-Za-z0-9.-]+", "_", label, perl = TRUE)
   stem <- substr(gsub("^_+|_+$", "", stem), 1, longest_name)
-  if (!nzchar(stem)) stem <- paste0("H", i)
+  if (!nzchar(stem)) stem <- paste0("H", whole_text(i))
   name <- stem
   number <- 1L
   while (name %in% taken) {
@@ -25,26 +33,29 @@ made_name <- function(label, taken, i) {
   name
 }
 
+# Stops if a label is the name of another hypothesis, since what is given by this label could be meant for either.
+check_labels <- function(names, labels) {
+  check_distinct(labels, "labels")
+  at <- match(labels, names)
+  other <- which(!is.na(at) & at != seq_along(labels))
+  if (length(other)) stop_at("labels", quoted(labels[other[1]]), " is the name of another hypothesis")
+}
+
+# The labels of hypotheses that an answer names.
+label_of <- function(names, graph) graph$labels[match(names, graph$names)]
+
 # The positions of hypotheses that are given by name, by label, by position, or by a logical vector.
-positions_of <- function(graph, given) {
+positions_of <- function(graph, given, what) {
   n <- length(graph$names)
-  if (is.logical(given) && length(given) == n && !anyNA(given)) return(which(given))
-  if (is.numeric(given) && all(given %in% seq_len(n))) return(as.integer(given))
-  if (!is.character(given)) stop("give hypotheses by their names, labels or positions", call. = FALSE)
-  at <- match(given, graph$names)
-  at[is.na(at)] <- match(given[is.na(at)], graph$labels)
-  if (anyNA(at)) stop("no hypothesis has the name ", given[is.na(at)][1], call. = FALSE)
+  if (is.logical(given) && !anyNA(given)) return(which(arranged(given, hypothesis_keys(graph), what, n)))
+  if (is_number(given) && is.null(names(given)) && all(given %in% seq_len(n))) return(as.integer(given))
+  if (is.factor(given)) given <- as.character(given)
+  if (!is.character(given)) stop_at(what, "hypotheses are given by their names, labels or positions")
+  at <- match(given, graph$labels)
+  at[is.na(at)] <- match(given[is.na(at)], graph$names)
+  if (anyNA(at)) stop_at(what, "no hypothesis has the name ", quoted(given[is.na(at)][1]))
   at
 }
 
-# A vector in the order of the hypotheses. One with names is put in order by them.
-in_order <- function(x, graph, what) {
-  given <- names(x)
-  if (is.null(given) || inherits(x, "welungad_exact")) return(x)
-  at <- match(graph$names, given)
-  if (anyNA(at)) at <- match(graph$labels, given)
-  if (anyNA(at) || length(x) != length(at)) {
-    stop("the names of ", what, " are not those of the hypotheses: ", paste(graph$labels, collapse = ", "), call. = FALSE)
-  }
-  x[at]
-}
+# What hypotheses may be called.
+hypothesis_keys <- function(graph) if (identical(graph$names, graph$labels)) list(graph$labels) else list(graph$labels, graph$names)

@@ -4,129 +4,216 @@
 # n / d == x. If there is no such d, it is read as the shortest decimal that R reads back as x. So 1/3 typed in R is 1/3,
 # 0.025 is 1/40, and 0.3333 is 3333/10000.
 
-denominators <- as.double(1:10000)
+# How many units in the last place a double may be away from a fraction to be called beside it.
+beside_units <- 4L
 
-# The value of a numeral, or NA if the text is none: 0.025, 1/40, 2.5e-2.
+as_exact <- function(x, total = NULL) {
+  if (is.data.frame(x)) x <- exact_frame(x, "x")
+  if (is.null(total)) exact_of(x, "x") else exact_to_total(x, total)
+}
+
+# The numbers of an argument, whatever their class.
+exact_of <- function(x, what) {
+  if (inherits(x, "welungad_exact")) return(x)
+  if (is.character(x)) {
+    read <- trimws(as.vector(x))
+    warn_written(read, what)
+    read <- list(given = as.vector(x), read = read, rule = ifelse(is.na(read), "missing", "text"))
+  } else if (inherits(x, c("bigq", "bigz"))) {
+    texts <- as.vector(as.character(gmp::as.bigq(x)))
+    read <- list(given = texts, read = texts, rule = ifelse(is.na(texts), "missing", "fraction of gmp"))
+  } else if (inherits(x, "integer64")) {
+    read <- read_integer64(x)
+  } else if (is.numeric(x) || (is.logical(x) && all(is.na(x)))) {
+    read <- read_doubles(as.double(x), what, names(x))
+  } else {
+    stop_at(what, "numbers are doubles, integers, texts or fractions of gmp, and not of class ", class(x)[1])
+  }
+  new_exact(read$given, read$read, read$rule, names_in(x), dim(x), if (!is.null(dim(x))) dimnames(x))
+}
+
+# The names of the elements of an argument; gmp keeps more of them than there are elements.
+names_in <- function(x) {
+  own <- names(x)
+  if (length(own) > length(x)) own <- own[seq_along(x)]
+  if (inherits(x, c("bigq", "bigz")) && anyNA(own)) NULL else own
+}
+
+# The numerators `n` and denominators `d` of the fractions with d up to 10,000 at the doubles, or at most `room` beside them.
+small_fractions <- function(x, room = 0) .Call(C_welungad_fractions, x, room)
+
+# The distance of a double to the next one.
+last_place <- function(x) 2^(floor(log2(abs(x))) - 52)
+
+# Doubles by the rule. `given` is what R shows.
+read_doubles <- function(x, what, names = NULL) {
+  if (length(x) > 64) {
+    values <- unique(x)
+    if (length(values) < length(x)) return(lapply(read_doubles(values, what), `[`, match(x, values)))
+  }
+  found <- small_fractions(x)
+  given <- sprintf("%.15g", x)
+  read <- quotient_of(found$n, found$d)
+  rule <- rep("least denominator", length(x))
+  other <- which(is.na(found$d))
+  if (length(other)) {
+    refuse_valueless(x, what, names)
+    missing <- other[is.na(x[other])]
+    other <- setdiff(other, missing)
+    given[missing] <- "NA"
+    read[missing] <- NA
+    rule[missing] <- "missing"
+    read[other] <- given[other] <- shortest_decimals(x[other])
+    rule[other] <- "shortest decimal"
+  }
+  list(given = given, read = read, rule = rule)
+}
+
+refuse_valueless <- function(x, what, names) {
+  wrong <- which(is.nan(x) | is.infinite(x))
+  if (length(wrong)) {
+    refuse(3L, "malformed: number", where = sprintf("%s: %s is %s", what, place_text(wrong[1], names), x[wrong[1]]))
+  }
+}
+
+# The shortest decimals that R reads back as the doubles.
+shortest_decimals <- function(x) {
+  texts <- sprintf("%.15g", x)
+  for (digits in 16:17) {
+    longer <- which(as.numeric(texts) != x)
+    if (length(longer)) texts[longer] <- decimal_text(x[longer], digits)
+  }
+  # below the least normal double fewer digits can be enough
+  small <- which(abs(x) < .Machine$double.xmin & x != 0)
+  texts[small] <- vapply(x[small], shortest_of_small, "")
+  texts
+}
+
+shortest_of_small <- function(x) {
+  texts <- sprintf("%.*e", 0:16, x)
+  texts[match(TRUE, as.numeric(texts) == x)]
+}
+
+# The whole numbers of the package bit64, which keeps their 64 bits in a double. NA is the least of them.
+read_integer64 <- function(x) {
+  halves <- readBin(writeBin(as.vector(unclass(x)), raw()), "integer", 2L * length(x), size = 4L)
+  halves <- matrix(halves, nrow = 2L)
+  if (.Platform$endian == "big") halves <- halves[2:1, , drop = FALSE]
+  # R reads the bits of the least integer as NA
+  high <- ifelse(is.na(halves[2, ]), -2^31, halves[2, ])
+  low <- ifelse(is.na(halves[1, ]), 2^31, halves[1, ] %% 2^32)
+  texts <- as.character(gmp::as.bigz(high) * gmp::as.bigz(2)^32 + gmp::as.bigz(low))
+  missing <- high == -2^31 & low == 0
+  list(
+    given = ifelse(missing, "NA", texts),
+    read = ifelse(missing, NA_character_, texts),
+    rule = ifelse(missing, "missing", "whole number of bit64")
+  )
+}
+
+# ---- numerals
+
+numeral_shape <- "^[-+]?([0-9]+/[0-9]+|([0-9]+[.]?[0-9]*|[.][0-9]+)([eE][-+]?[0-9]+)?)\\z"
+
+is_numeral <- function(text) !is.na(text) & grepl(numeral_shape, text, perl = TRUE)
+
+# The value of a numeral, or NA if the text is none: 0.025, 1/40, 2.5e-2. Exponents beyond 10,000 have no value here.
 numeral_value <- function(text) {
   text <- sub("^\\+", "", trimws(text))
-  if (grepl("^-?[0-9]+/[0-9]+$", text)) {
+  if (!is_numeral(text)) return(gmp::NA_bigq_)
+  if (grepl("/", text, fixed = TRUE)) {
     parts <- gmp::as.bigz(strsplit(text, "/", fixed = TRUE)[[1]])
     return(if (parts[2] == 0) gmp::NA_bigq_ else gmp::as.bigq(parts[1], parts[2]))
   }
-  if (!grepl("^-?([0-9]+[.]?[0-9]*|[.][0-9]+)([eE][-+]?[0-9]{1,4})?$", text)) return(gmp::NA_bigq_)
   parts <- strsplit(tolower(text), "e", fixed = TRUE)[[1]]
-  exponent <- if (length(parts) == 2) as.integer(parts[2]) else 0L
   digits <- strsplit(parts[1], ".", fixed = TRUE)[[1]]
-  after <- if (length(digits) == 2) nchar(digits[2]) else 0L
   whole <- gmp::as.bigz(sub("^(-?)0*([0-9])", "\\1\\2", paste(digits, collapse = "")))
-  shift <- exponent - after
+  if (whole == 0) return(gmp::as.bigq(0))
+  exponent <- if (length(parts) == 2) as.numeric(parts[2]) else 0
+  if (abs(exponent) > 10000) return(gmp::NA_bigq_)
+  shift <- exponent - if (length(digits) == 2) nchar(digits[2]) else 0
   if (shift >= 0) gmp::as.bigq(whole * ten_to(shift)) else gmp::as.bigq(whole, ten_to(-shift))
 }
 
 ten_to <- function(n) gmp::as.bigz(10)^n
 
-# The numerator and the denominator of a finite double by the first half of the rule, or NULL.
-small_fraction <- function(x) {
-  n <- round(x * denominators)
-  d <- match(TRUE, n / denominators == x)
-  if (is.na(d)) NULL else c(n[d], d)
+# ---- numbers that R had turned into texts, and doubles beside fractions
+
+# Warns of texts that R writes for a fraction: of 7 digits, as format() and as.matrix() of a data frame write, and of 15, as
+# paste() does. Nearly each text of 7 digits is beside a fraction with a denominator of 10,000, so for them it is 1,000.
+warn_written <- function(texts, what) {
+  long <- which(nchar(texts) >= 7 & grepl("^-?[0-9]*[.][0-9]+(e[-+]?[0-9]+)?\\z", texts, perl = TRUE))
+  if (length(long) == 0) return(invisible())
+  meant <- written_fractions(texts[long])
+  at <- which(!is.na(meant))
+  if (length(at) == 0) return(invisible())
+  texts <- unique(sprintf("\"%s\" is what R writes for %s", texts[long][at], meant[at]))
+  warn("welungad_written", what, listed(texts), ". Texts are read as they are written: give the fraction, as a text or as a number")
 }
 
-# The shortest decimal that R reads back as the double; that of 17 digits if R reads back none.
-shortest_decimal <- function(x) {
-  texts <- sprintf("%.*e", 0:16, x)
-  back <- which(as.numeric(texts) == x)
-  text <- texts[if (length(back)) back[1] else 17L]
-  plain <- format(x, digits = if (length(back)) back[1] else 17L)
-  if (identical(as.numeric(plain), as.numeric(text))) plain else text
+warn <- function(class, what, ...) {
+  text <- paste0(what, ": ", ...)
+  warning(structure(class = c(class, "warning", "condition"), list(message = text, call = NULL)))
 }
 
-# One double by the rule, as a row of as_exact.
-read_double <- function(x) {
-  if (is.nan(x) || is.infinite(x)) {
-    refuse(3L, "malformed: number", sprintf("%s has no value.", format(x)))
-  }
-  if (is.na(x)) return(c(given = "NA", read = NA, rule = "missing"))
-  found <- small_fraction(x)
-  if (is.null(found)) {
-    text <- shortest_decimal(x)
-    return(c(given = text, read = text, rule = "shortest decimal"))
-  }
-  n <- sub("^-0$", "0", sprintf("%.0f", found[1]))
-  read <- if (found[2] == 1) n else sprintf("%s/%.0f", n, found[2])
-  c(given = format(x, digits = 15), read = read, rule = "least denominator")
+# The fraction for which R writes each decimal, NA if it writes it for none, or if the decimal is the fraction.
+written_fractions <- function(texts) {
+  x <- as.numeric(texts)
+  digits <- nchar(gsub("[^0-9]", "", sub("^-?0*[.]?0*", "", sub("e.*", "", texts))))
+  most <- ifelse(digits == 15, 10000, ifelse(digits == 7, 1000, 0))
+  near <- small_fractions(x, 10^(floor(log10(abs(x))) + 1 - digits))
+  at <- which(near$d <= most & near$n != 0)
+  written <- as.numeric(sprintf("%.*g", digits[at], near$n[at] / near$d[at])) == x[at]
+  meant <- quotient_of(near$n[at], near$d[at])
+  found <- rep(NA_character_, length(texts))
+  found[at] <- ifelse(written & as.logical(fraction(meant) != fraction(texts[at])), meant, NA)
+  found
 }
 
-# Rows of as_exact for a vector of doubles; equal doubles are read once.
-read_doubles <- function(x) {
-  values <- unique(x)
-  rows <- vapply(values, read_double, c(given = "", read = "", rule = ""))
-  t(rows)[match(x, values), , drop = FALSE]
+# For each text of a double: the fraction with a denominator up to 10,000 beside it, and how many units in the last place the
+# double is above it. NA where there is none or it is the number itself.
+beside <- function(texts) {
+  x <- suppressWarnings(as.numeric(texts))
+  x[!grepl("[0-9.]{15}", texts)] <- NA
+  near <- small_fractions(x, beside_units * last_place(x))
+  units <- round((x - near$n / near$d) / last_place(x))
+  there <- !is.na(near$d) & units != 0
+  list(fraction = ifelse(there, quotient_of(near$n, near$d), NA), units = ifelse(there, units, NA))
 }
 
-as_exact <- function(x) {
-  where <- names(x)
-  if (inherits(x, "welungad_exact")) return(x)
-  if (inherits(x, c("bigq", "bigz"))) {
-    texts <- as.character(gmp::as.bigq(x))
-    read <- cbind(given = texts, read = texts, rule = rep("fraction of gmp", length(texts)))
-  } else if (is.character(x)) {
-    read <- cbind(given = as.vector(x), read = trimws(as.vector(x)), rule = ifelse(is.na(x), "missing", "text"))
-  } else if (is.numeric(x) && !is.factor(x)) {
-    read <- read_doubles(as.double(x))
-  } else if (is.logical(x) && all(is.na(x))) {
-    read <- read_doubles(as.double(x))
-  } else {
-    stop("numbers are doubles, integers, texts or fractions of gmp, and not of class ", class(x)[1], call. = FALSE)
-  }
-  parts <- list(given = unname(read[, "given"]), read = unname(read[, "read"]), rule = unname(read[, "rule"]), names = where)
-  structure(parts, class = "welungad_exact")
+# Sentences of what the doubles beside fractions are.
+beside_sentences <- function(texts) {
+  texts <- unique(texts)
+  found <- beside(texts)
+  at <- which(!is.na(found$fraction))
+  vapply(at, function(i) paste0(texts[i], " is ", units_text(found$units[i]), " ", found$fraction[i]), "")
 }
 
-length.welungad_exact <- function(x) length(x$read)
-
-as.character.welungad_exact <- function(x, ...) stats::setNames(x$read, x$names)
-
-as.data.frame.welungad_exact <- function(x, ...) {
-  data.frame(given = x$given, read = x$read, value = double_of(x$read), rule = x$rule, stringsAsFactors = FALSE)
+units_text <- function(units) {
+  count <- c("one unit", "two units", "three units", "four units")[abs(units)]
+  paste(count, "in the last place", if (units > 0) "above" else "below")
 }
 
-format.welungad_exact <- function(x, ...) as.character(x)
-
-print.welungad_exact <- function(x, ...) {
-  table <- as.data.frame(x)
-  table$read <- shortened(table$read)
-  if (!is.null(x$names) && !anyDuplicated(x$names)) row.names(table) <- x$names
-  print(table)
-  invisible(x)
-}
-
-# Texts cut for display.
-shortened <- function(text) ifelse(is.na(text) | nchar(text) <= 60, text, paste0(substr(text, 1, 40), ".."))
-
-# The p-values as they are handed in. A double whose denominator would pass 10^30 is rounded up to a multiple of 10^-30.
-read_p <- function(p, names) {
-  p <- as_exact(p)
-  limit <- ten_to(30)
-  for (i in which(p$rule == "shortest decimal")) {
-    value <- fraction(p$read[i])
-    if (value > 0 && gmp::denominator(value) > limit) {
-      p$read[i] <- as.character(round_up(value, limit))
-      p$rule[i] <- "rounded up to a multiple of 10^-30"
-      report_rounded(names[i], p$given[i], p$read[i])
+# Reads a row of numbers as the fractions beside them, if these sum to the total; a matrix row by row, in which a row of zeros
+# may stay. The others are refused.
+exact_to_total <- function(x, total) {
+  bound <- fraction(exact_of(total, "total")$read)
+  if (length(bound) != 1 || is.na(bound)) stop_at("total", "one number is needed")
+  read <- exact_of(x, "x")
+  found <- beside(read$read)
+  moved <- which(!is.na(found$fraction) & read$rule == "shortest decimal")
+  read$read[moved] <- found$fraction[moved]
+  read$rule[moved] <- "beside a small fraction"
+  rows <- if (length(read$dim) == 2) split(seq_along(read$read), rep(seq_len(read$dim[1]), read$dim[2])) else list(seq_along(read$read))
+  for (i in seq_along(rows)) {
+    values <- fraction(read$read[rows[[i]]])
+    sum <- sum_of(values)
+    if (is.na(sum)) stop_at("x", "a sum needs numbers without epsilon, and none missing")
+    if (sum != bound && !(length(rows) > 1 && all(values == 0))) {
+      row <- if (length(read$dim) == 2) paste("row", if (is.null(rownames(read))) i else quoted(rownames(read)[i])) else "the row"
+      stop_at("x", row, " reads as ", as.character(sum), ", and not as ", as.character(bound), ": ",
+        "the fractions that are beside its numbers do not sum to it")
     }
   }
-  p
-}
-
-# The least multiple of 1/parts that is not below the value.
-round_up <- function(value, parts) {
-  n <- gmp::numerator(value) * parts
-  d <- gmp::denominator(value)
-  gmp::as.bigq((n + d - 1) %/% d, parts)
-}
-
-report_rounded <- function(name, given, read) {
-  text <- sprintf("The p-value %s of %s was rounded up to %s, a multiple of 10^-30.\n", given, name, read)
-  message(structure(class = c("welungad_rounded", "message", "condition"), list(message = text, call = NULL)))
+  read
 }

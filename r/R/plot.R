@@ -14,12 +14,15 @@ default_layout <- function(n) {
   cbind(cos(angle), sin(angle)) * 1.3
 }
 
-checked_layout <- function(layout, n) {
+# The places of the hypotheses; rows with names are put in order by them.
+checked_layout <- function(layout, graph) {
+  n <- length(graph$names)
   if (is.null(layout)) return(default_layout(n))
   layout <- as.matrix(layout)
   if (!is.numeric(layout) || !identical(dim(layout), c(n, 2L)) || anyNA(layout)) {
-    stop("layout is a matrix of numbers with a row of two coordinates for each hypothesis", call. = FALSE)
+    stop_at("layout", "a matrix of numbers is needed with a row of two coordinates for each hypothesis")
   }
+  if (!is.null(rownames(layout))) layout <- layout[places_among(rownames(layout), hypothesis_keys(graph), "layout"), , drop = FALSE]
   unname(layout)
 }
 
@@ -34,6 +37,18 @@ plot.welungad_test <- function(x, layout = NULL, main = NULL, cex = 1, ...) {
   invisible(x)
 }
 
+plot.welungad_closure <- plot.welungad_test
+
+plot.welungad_stages <- plot.welungad_test
+
+plot.welungad_study <- function(x, ...) {
+  stop_at("x", "a study has no picture: plot(graph_stages(..)) draws the graph, and as.data.frame(x) has the looks")
+}
+
+plot.welungad_bounds <- function(x, ...) {
+  stop_at("x", "bounds have no picture: plot(x$graph) draws the graph, and as.data.frame(x) has the sets and their bounds")
+}
+
 # The graphs before the first removal and after each, side by side, each hypothesis at its place.
 plot.welungad_update <- function(x, layout = NULL, cex = 0.8, ...) {
   n <- length(x$graphs)
@@ -41,7 +56,8 @@ plot.welungad_update <- function(x, layout = NULL, cex = 0.8, ...) {
   old <- graphics::par(mfrow = c(ceiling(n / columns), columns))
   on.exit(graphics::par(old))
   for (k in seq_len(n)) {
-    main <- if (k == 1) "at the start" else paste("without", paste(x$deleted[seq_len(k - 1)], collapse = ", "))
+    main <- if (k == 1) "at the start" else if (k <= 5) paste("without", paste(x$deleted[seq_len(k - 1)], collapse = ", ")) else
+      paste("without", k - 1, "hypotheses")
     draw_graph(x$graphs[[k]], x$initial_graph, layout, main, cex)
   }
   invisible(x)
@@ -49,45 +65,112 @@ plot.welungad_update <- function(x, layout = NULL, cex = 0.8, ...) {
 
 # Draws a graph; `all` has the hypotheses that have a place, and those that the graph lacks are drawn as removed.
 draw_graph <- function(graph, all, layout, main, cex, marked = NULL) {
-  n <- length(all$names)
-  at <- checked_layout(layout, n)
-  radius <- node_radius(at)
-  margin <- radius * 1.5
-  old <- graphics::par(mar = c(0.5, 0.5, if (is.null(main)) 0.5 else 2, 0.5))
+  at <- checked_layout(layout, all)
+  nodes <- nodes_of(graph, all, at, marked)
+  nodes$round <- is.null(layout) && nrow(at) > 4
+  old <- graphics::par(mar = c(1.5, 0.5, if (is.null(main)) 0.5 else 2, 0.5))
   on.exit(graphics::par(old))
   graphics::plot.new()
-  graphics::plot.window(range(at[, 1]) + c(-margin, margin), range(at[, 2]) + c(-margin, margin), asp = 1)
+  arrows <- arrows_of(graph, all, at, nodes$radius)
+  open_window(at, nodes$radius * 1.5, arrows)
+  inside <- all(node_size(nodes, cex) >= 0.55 * cex)
+  if (!inside) open_window(at, beside_margin(nodes, at, cex), arrows)
   if (!is.null(main)) graphics::title(main = main, line = 0.5, font.main = 1, cex.main = cex)
-  draw_edges(graph, all, at, radius, cex)
-  draw_nodes(graph, all, at, radius, cex, marked)
+  draw_edges(arrows, graph, nrow(at), cex)
+  draw_circles(nodes, at)
+  if (inside) write_inside(nodes, at, cex) else write_beside(nodes, at, cex)
+}
+
+# A window with room for the circles with a margin, and for the arrows.
+open_window <- function(at, margin, arrows) {
+  ends <- vapply(arrows, function(it) c(range(it$path[, 1]), range(it$path[, 2])), numeric(4))
+  x <- range(range(at[, 1]) + c(-margin, margin), ends[1:2, ])
+  y <- range(range(at[, 2]) + c(-margin, margin), ends[3:4, ])
+  graphics::plot.window(x, y, asp = 1)
 }
 
 # A radius at which circles neither touch nor get lost.
 node_radius <- function(at) if (nrow(at) == 1) 0.5 else min(0.5, min(stats::dist(at)) * 0.23)
 
-draw_nodes <- function(graph, all, at, radius, cex, marked) {
-  fill <- ifelse(all$names %in% graph$names, fill_plain, fill_removed)
+# What is drawn of each hypothesis: its label, its weights and its colours.
+nodes_of <- function(graph, all, at, marked) {
+  here <- match(all$names, graph$names)
+  fill <- ifelse(is.na(here), fill_removed, fill_plain)
   if (!is.null(marked)) fill[marked] <- fill_rejected
-  here <- all$names %in% graph$names
-  graphics::symbols(at[, 1], at[, 2], circles = rep(radius, nrow(at)), inches = FALSE, add = TRUE, bg = fill,
-    fg = ifelse(here, "black", "grey60"))
-  for (i in seq_along(all$names)) {
-    node <- match(all$names[i], graph$names)
-    texts <- if (is.na(node)) list() else lapply(graph$components, function(it) short_text(it$weights[[node]]))
-    colours <- if (length(texts) > 1) component_colours[seq_along(texts)] else rep("black", length(texts))
-    write_node(at[i, ], radius, c(list(all$labels[i]), texts), c(if (here[i]) "black" else "grey60", colours), cex)
+  weights <- lapply(here, function(i) if (is.na(i)) list() else lapply(graph$components, function(it) short_text(it$weights[[i]])))
+  list(labels = all$labels, weights = weights, here = !is.na(here), fill = fill, radius = node_radius(at))
+}
+
+draw_circles <- function(nodes, at) {
+  graphics::symbols(at[, 1], at[, 2], circles = rep(nodes$radius, nrow(at)), inches = FALSE, add = TRUE, bg = nodes$fill,
+    fg = ifelse(nodes$here, "black", "grey60"))
+}
+
+colours_of <- function(count) if (count > 1) component_colours[seq_len(count)] else rep("black", count)
+
+# The size of the label of each hypothesis at which it fits into its circle.
+node_size <- function(nodes, cex) {
+  rows <- 1 + lengths(nodes$weights)
+  line <- pmin(nodes$radius * 1.24 / rows, 1.9 * cex * graphics::strheight("Mg"))
+  pmin(cex, line / (1.2 * graphics::strheight("Mg")), 1.7 * nodes$radius / graphics::strwidth(nodes$labels))
+}
+
+# Label and weights in the circles, shrunk if they are wider.
+write_inside <- function(nodes, at, cex) {
+  for (i in seq_along(nodes$labels)) {
+    texts <- c(list(nodes$labels[i]), nodes$weights[[i]])
+    colours <- c(if (nodes$here[i]) "black" else "grey60", colours_of(length(texts) - 1))
+    rows <- length(texts)
+    line <- min(nodes$radius * 1.24 / rows, 1.9 * cex * graphics::strheight("Mg"))
+    size <- min(cex, line / (1.2 * graphics::strheight("Mg")))
+    for (k in seq_len(rows)) {
+      fit <- min(size, 1.7 * nodes$radius / max(graphics::strwidth(texts[[k]]), 1e-9))
+      graphics::text(at[i, 1], at[i, 2] + ((rows + 1) / 2 - k) * line, texts[[k]], cex = fit, col = colours[k],
+        font = if (k == 1) 2 else 1)
+    }
   }
 }
 
-# Lines of text in a circle, shrunk if they are wider than it.
-write_node <- function(place, radius, texts, colours, cex) {
-  rows <- length(texts)
-  line <- min(radius * 1.24 / rows, 1.9 * cex * graphics::strheight("Mg"))
-  size <- min(cex, line / (1.2 * graphics::strheight("Mg")))
-  for (k in seq_len(rows)) {
-    fit <- min(size, 1.7 * radius / max(graphics::strwidth(texts[[k]]), 1e-9))
-    graphics::text(place[1], place[2] + ((rows + 1) / 2 - k) * line, texts[[k]], cex = fit, col = colours[k],
-      font = if (k == 1) 2 else 1)
+# The texts beside the circles: label and weights in one line.
+beside_texts <- function(nodes) {
+  lapply(seq_along(nodes$labels), function(i) {
+    weights <- nodes$weights[[i]]
+    plain <- all(vapply(weights, is.character, NA))
+    if (plain) return(paste(c(nodes$labels[i], paste(unlist(weights), collapse = " + ")), collapse = "  "))
+    parts <- lapply(weights, function(it) if (is.expression(it)) it[[1]] else it)
+    as.expression(Reduce(function(x, y) bquote(.(x) ~~ .(y)), parts, nodes$labels[i]))
+  })
+}
+
+# The size of the texts beside the circles: as the places on a circle have room for it.
+beside_size <- function(nodes, at, cex) {
+  room <- if (nodes$round) min(stats::dist(at)) else nodes$radius * 4
+  max(0.3, min(0.9 * cex, room / (1.5 * graphics::strheight("Mg"))))
+}
+
+beside_margin <- function(nodes, at, cex) {
+  widths <- vapply(beside_texts(nodes), graphics::strwidth, 0, cex = beside_size(nodes, at, cex))
+  # the window grows with its margin, and texts keep their size on the device
+  span <- max(diff(range(at[, 1])), diff(range(at[, 2]))) + 3 * nodes$radius
+  width <- min(max(widths), span)
+  if (nodes$round) nodes$radius * 1.6 + width * span / max(span - 1.6 * width, span / 4) else max(width / 2, nodes$radius * 2.5)
+}
+
+# Labels and weights beside the circles: outwards from the middle of a circle, else below.
+write_beside <- function(nodes, at, cex) {
+  size <- beside_size(nodes, at, cex)
+  texts <- beside_texts(nodes)
+  for (i in seq_along(texts)) {
+    colour <- if (nodes$here[i]) "black" else "grey60"
+    if (nodes$round) {
+      angle <- atan2(at[i, 2], at[i, 1])
+      place <- at[i, ] + nodes$radius * 1.4 * c(cos(angle), sin(angle))
+      left <- cos(angle) < -1e-9
+      graphics::text(place[1], place[2], texts[[i]], cex = size, col = colour, srt = angle * 180 / pi + if (left) 180 else 0,
+        adj = c(if (left) 1 else 0, 0.4))
+    } else {
+      graphics::text(at[i, 1], at[i, 2] - nodes$radius * 1.25, texts[[i]], cex = size, col = colour, adj = c(0.5, 1))
+    }
   }
 }
 
@@ -99,7 +182,7 @@ short_text <- function(text) {
   }
   if (nchar(text) <= 7) return(text)
   decimal <- exact_decimal(fraction(text))
-  if (nchar(decimal) <= 7) decimal else paste0("~", format(double_of(text), digits = 4))
+  if (nchar(decimal) <= 7) decimal else paste0("~", decimal_text(double_of(text), 4))
 }
 
 # The arrows of all components, each with the ends of its hypotheses, its text and its colour.
@@ -119,28 +202,55 @@ arrows_of <- function(graph, all, at, radius) {
   found
 }
 
-# Draws all arrows, and then their texts at the places at which they hide each other least.
-draw_edges <- function(graph, all, at, radius, cex) {
-  arrows <- arrows_of(graph, all, at, radius)
+# The most numbers of edges in a picture: more would hide each other.
+most_edge_texts <- 48L
+
+# Draws all arrows, and then their texts at the places at which they hide each other least. Many arrows have no texts: a line
+# below the picture has their numbers, each with its colour.
+draw_edges <- function(arrows, graph, nodes, cex) {
+  if (length(arrows) > most_edge_texts) return(draw_many(arrows, length(graph$components), cex))
   for (it in arrows) draw_arrow(it$path, it$colour, cex)
   taken <- matrix(numeric(), 0, 4)
+  size <- cex * if (nodes > 8) 0.65 else 0.8
   for (it in arrows) {
-    box <- best_box(it, taken, cex * 0.8)
+    box <- best_box(it, taken, size)
     taken <- rbind(taken, box)
     graphics::rect(box[1], box[2], box[3], box[4], col = "white", border = NA)
-    graphics::text((box[1] + box[3]) / 2, (box[2] + box[4]) / 2, it$text, cex = cex * 0.8, col = it$colour)
+    graphics::text((box[1] + box[3]) / 2, (box[2] + box[4]) / 2, it$text, cex = size, col = it$colour)
   }
 }
 
-# How far an arrow bends: not at all if it is alone, more if another circle is in its way.
+draw_many <- function(arrows, components, cex) {
+  texts <- lapply(arrows, `[[`, "text")
+  values <- unique(texts)
+  by_value <- components == 1 && length(values) <= 4
+  for (it in arrows) {
+    colour <- if (by_value) component_colours[match(list(it$text), values)] else it$colour
+    draw_arrow(it$path, grDevices::adjustcolor(colour, 0.5), cex * 0.5)
+  }
+  if (!by_value) {
+    graphics::mtext(paste(length(arrows), "arrows; print shows their numbers"), side = 1, line = 0.3, cex = 0.8 * cex)
+    return(invisible())
+  }
+  parts <- as.expression(lapply(values, function(it) if (is.expression(it)) it[[1]] else it))
+  graphics::legend("bottom", legend = parts, col = component_colours[seq_along(values)], lty = 1, horiz = TRUE, bty = "n",
+    cex = 0.8 * cex, inset = -0.05, xpd = NA)
+}
+
+# How far an arrow bends: not at all if it is alone, and around another circle in its way, towards the middle of the picture. The
+# two arrows of a pair bend by different amounts.
 bend_of <- function(at, i, j, radius, both) {
   along <- at[j, ] - at[i, ]
+  distance <- sqrt(sum(along^2))
   others <- setdiff(seq_len(nrow(at)), c(i, j))
   blocked <- any(vapply(others, function(k) {
-    t <- sum((at[k, ] - at[i, ]) * along) / sum(along^2)
+    t <- sum((at[k, ] - at[i, ]) * along) / distance^2
     t > 0 && t < 1 && sqrt(sum((at[i, ] + t * along - at[k, ])^2)) < radius * 1.2
   }, NA))
-  if (blocked) 0.35 else if (both) 0.1 else 0
+  if (!blocked) return(if (both) 0.1 else 0)
+  inwards <- sum(c(-along[2], along[1]) * (colMeans(at) - (at[i, ] + at[j, ]) / 2))
+  bend <- min(0.35, 1.2 * sqrt(radius / distance)) * if (i < j) 1 else 0.75
+  if (inwards < 0) -bend else bend
 }
 
 # The points of a curve between two circles, or NULL if they touch.

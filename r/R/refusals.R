@@ -70,7 +70,7 @@ refusal_table <- c(
   "^limit: components " = "Give at most 8 graphs.",
   "^limit: stages " = "Give at most 12 stages.",
   "^limit: spend steps " = "Give a table at most 32 steps.",
-  "^limit: case: part alpha$" = "Alpha has at most four decimals.",
+  "^limit: case: part alpha$" = "Alpha has at most four decimals, or is a fraction of whole numbers up to 10,000.",
   "^limit: case: part (p of|arrival) " = "Round the p-value up to a fraction whose denominator is at most 10^30.",
   "^limit: case: part spend of .* stage " = "Choose fractions whose numerators and denominators are at most 10,000, or a table.",
   "^limit: case: part " = "Write a fraction whose numerator and denominator are at most 10^18.",
@@ -92,53 +92,188 @@ advice <- function(line) {
   if (any(fits)) unname(refusal_table[[which(fits)[1]]]) else ""
 }
 
-# Signals a refusal: a condition with its status, its line, and a sentence that says what to do.
-refuse <- function(status, line, amount = "") {
+# Signals a refusal: a condition with its status, its line, the argument and the place that it is about, and a sentence that says
+# what to do.
+refuse <- function(status, line, amount = "", where = "") {
   advice <- advice(line)
   sentences <- c(amount, advice)
-  text <- paste0(c(sprintf("refused with status %d: %s", status, line), sentences[nzchar(sentences)]), collapse = "\n  ")
-  condition <- list(message = text, call = NULL, status = as.integer(status), line = line, amount = amount, advice = advice)
+  head <- if (nzchar(where)) sprintf("%s (%s)", where, line) else sprintf("refused with status %d: %s", status, line)
+  text <- paste0(c(head, sentences[nzchar(sentences)]), collapse = "\n  ")
+  condition <- list(message = text, call = NULL, status = as.integer(status), line = line, where = where, amount = amount,
+    advice = advice)
   stop(structure(condition, class = c("welungad_refusal", "error", "condition")))
 }
 
-# The sentence with the amount of a sum above its bound; "" for any other line. `reading` has the numbers as they were
-# handed in: `shares`, and by component `weights` and `edges`.
-amount_of <- function(lines, reading) {
-  line <- if (length(lines)) lines[1] else ""
-  if (is.null(reading) || !grepl("^malformed: case: (share|weight|row|spend) sum", line)) return("")
-  words <- strsplit(sub("^malformed: case: ", "", line), " ", fixed = TRUE)[[1]]
-  component <- if ("component" %in% words) as.integer(words[length(words)]) else 1L
+# The refusal of a case that was handed in.
+refuse_case <- function(status, line, case) {
+  refuse(status, line, amount_of(line, case), where_of(line, case))
+}
+
+# ---- the argument and the place
+
+# Left: what the line says of the case. Right: the argument and the place, with the words of the line that the parentheses
+# select; a name of the program becomes its label.
+place_table <- rbind(
+  c("^alpha$", "alpha", "the level"),
+  c("^share component (\\S+)$", "shares", "the share of graph %s"),
+  c("^share sum$", "shares", "the sum of the shares"),
+  c("^weight count component \\S+$", "hypotheses", "the number of the weights"),
+  c("^weight of (\\S+) component \\S+$", "hypotheses", "the weight of %s"),
+  c("^weight sum component \\S+$", "hypotheses", "the sum of the weights"),
+  c("^self edge of (\\S+) component \\S+$", "transitions", "the edge from %s to itself"),
+  c("^(?:repeated )?edge (\\S+) (\\S+) component \\S+$", "transitions", "the edge from %s to %s"),
+  c("^row sum of (\\S+) component \\S+$", "transitions", "the sum of the edges from %s"),
+  c("^p count \\S+$", "p", "the number of the p-values"),
+  c("^p missing (\\S+)$", "p", "the p-value of %s is missing"),
+  c("^p of (\\S+)$", "p", "the p-value of %s"),
+  c("^no stage$", "levels", "the number of stages"),
+  c("^spend count (\\S+)$", "levels", "the number of the levels of hypothesis %s"),
+  c("^step (\\S+) of (\\S+)$", "levels", "the weight of row %s of %s"),
+  c("^spend of (\\S+) stage (\\S+)$", "levels", "the level of %s at stage %s"),
+  c("^spend sum of (\\S+)$", "levels", "the sum of the levels of %s"),
+  c("^arrival (\\S+)(?: stage| repeated| p)?$", "looks", "row %s"),
+  c("^(?:duplicate )?name (\\S+)$", "hypotheses", "the name of hypothesis %s"),
+  c("^no hypothesis$", "hypotheses", "the number of hypotheses")
+)
+
+# Left: whole lines, or their beginnings. Right: the argument, and what it is about.
+argument_table <- rbind(
+  c("^limit: hypotheses ", "hypotheses", "the number of hypotheses"),
+  c("^limit: components ", "...", "the number of graphs"),
+  c("^limit: (stages|spend steps) ", "levels", "the number of stages or rows"),
+  c("^limit: closure ", "graph", "the number of hypotheses"),
+  c("^limit: size ", "size", "the number of hypotheses"),
+  c("^malformed: proof line ", "evidence", "the document"),
+  c("^limit: proof bytes ", "evidence", "the length of the document"),
+  c("^malformed: record ", "store", "the file of the looks"),
+  c("^keeper fault", "store", "the file of the looks"),
+  c("^too wide: ", "graph", "its numbers become too wide")
+)
+
+# The argument and the place that a line is about, and what was given there; "" if it is about none.
+where_of <- function(line, case) {
+  if (is.null(case$graph)) return("")
+  if (grepl("^(malformed|limit): line [0-9]+: ", line)) return(where_in_text(line, case))
+  rest <- sub("^(malformed: case|limit: case: part|limit: case): ?(part )?", "", line)
+  for (i in seq_len(if (identical(rest, line)) 0 else nrow(place_table))) {
+    found <- regmatches(rest, regexec(place_table[i, 1], rest, perl = TRUE))[[1]]
+    if (length(found)) return(paste0(place_table[i, 2], ": ", filled(place_table[i, 3], found[-1], case$graph), value_at(rest, case)))
+  }
+  at <- which(vapply(argument_table[, 1], grepl, NA, x = line))
+  if (length(at)) paste0(argument_table[at[1], 2], ": ", argument_table[at[1], 3]) else ""
+}
+
+# A sentence with the words of a line, names of the program as labels.
+filled <- function(sentence, words, graph) {
+  labels <- label_of(words, graph)
+  do.call(sprintf, as.list(c(sentence, ifelse(is.na(labels), words, labels))))
+}
+
+# What was given for one p-value or weight, or for the level.
+value_at <- function(rest, case) {
+  lines <- strsplit(as_text_of(case$text), "\n", fixed = TRUE)[[1]]
+  words <- strsplit(rest, " ", fixed = TRUE)[[1]]
+  given <- switch(paste(words[1:2], collapse = " "),
+    "alpha NA" = words_after(lines, "alpha"),
+    "p of" = words_after(lines, "p")[match(words[3], case$graph$names)],
+    "weight of" = {
+      all <- lines[startsWith(lines, "weights ")]
+      words_after_first(all[as.integer(words[5])])[match(words[3], case$graph$names)]
+    }
+  )
+  if (length(given) == 1 && !is.na(given)) paste(" is", given) else ""
+}
+
+as_text_of <- function(text) if (is.raw(text)) rawToChar(text) else text
+
+# The argument and the place of a line of the text that was handed in.
+where_in_text <- function(line, case) {
+  number <- as.integer(sub("^[a-z]+: line ([0-9]+): .*", "\\1", line))
+  kind <- sub("^[a-z]+: line [0-9]+: ", "", line)
+  words <- strsplit(strsplit(as_text_of(case$text), "\n", fixed = TRUE)[[1]][number], " ", fixed = TRUE)[[1]]
+  given <- words[-1]
+  named <- function(i) label_of(given[i], case$graph)
+  at <- culprit(given, kind)
   switch(words[1],
-    share = sum_sentence("The shares", fraction(reading$shares)),
-    weight = sum_sentence(in_component("The weights", component, reading), fraction(reading$weights[[component]])),
-    row = row_sentence(words[4], component, reading),
-    spend = levels_sentence(words[4], reading)
+    alpha = sprintf("alpha: the level is %s", quoted(given[1])),
+    hypotheses = "hypotheses: the names",
+    p = sprintf("p: the p-value of %s is %s", case$graph$labels[at], quoted(given[at])),
+    component = sprintf("shares: a share is %s", quoted(given[1])),
+    weights = sprintf("hypotheses: the weight of %s is %s", case$graph$labels[at], quoted(given[at])),
+    edge = sprintf("transitions: the edge from %s to %s is %s", named(1), named(2), quoted(paste(given[-(1:2)], collapse = " "))),
+    stages = "levels: the number of stages",
+    spend = ,
+    table = sprintf("levels: the levels of %s are %s", named(1), paste(given[-1], collapse = " ")),
+    arrive = sprintf("looks: the p-value of %s at stage %s is %s", named(1), given[2], quoted(given[3])),
+    ""
   )
 }
 
-in_component <- function(text, component, reading) {
-  if (length(reading$weights) == 1) text else paste(text, "of component", component)
+# The place of the first word that is refused in a list of numerals.
+culprit <- function(words, kind) {
+  wrong <- switch(kind,
+    "zero denominator" = grepl("/0+$", words),
+    digits = nchar(gsub("[^0-9]", "", words)) > 30,
+    !is_numeral(words)
+  )
+  if (any(wrong)) which(wrong)[1] else 1L
 }
 
-sum_sentence <- function(what, terms, bound = gmp::as.bigq(1)) {
-  total <- sum_of(terms)
+# ---- amounts
+
+# The sentences with the amount of a sum above its bound, and the doubles beside fractions in it; "" for any other line.
+amount_of <- function(line, case) {
+  graph <- case$graph
+  if (line == "limit: case: part alpha") return(paste0(beside_sentences(alpha_of(case)), if (any(nzchar(beside_sentences(alpha_of(case))))) "."))
+  if (is.null(graph) || !grepl("^malformed: case: (share|weight|row|spend) sum", line)) return("")
+  words <- strsplit(sub("^malformed: case: ", "", line), " ", fixed = TRUE)[[1]]
+  component <- graph$components[[if ("component" %in% words) as.integer(words[length(words)]) else 1L]]
+  switch(words[1],
+    share = sum_sentence("The shares", vapply(graph$components, `[[`, "", "share"), argument = "shares"),
+    weight = sum_sentence("The weights", component$weights, argument = "hypotheses"),
+    row = row_sentence(match(words[4], graph$names), component, graph),
+    spend = levels_sentence(words[4], case)
+  )
+}
+
+alpha_of <- function(case) words_after(strsplit(as_text_of(case$text), "\n", fixed = TRUE)[[1]], "alpha")
+
+# `texts` are the terms, and `argument` is what they were given for.
+sum_sentence <- function(what, texts, bound = gmp::as.bigq(1), argument = NULL) {
+  total <- sum_of(fraction(texts))
   if (is.na(total) || total <= bound) return("")
-  sprintf("%s sum to %s, which is %s above %s.", what, exact_decimal(total), format(as_double(total - bound), digits = 3),
-    exact_decimal(bound))
+  excess <- decimal_text(as_double(total - bound), 3)
+  sentence <- sprintf("%s sum to %s, which is %s above %s.", what, exact_decimal(total), excess, exact_decimal(bound))
+  paste(c(sentence, cure_of_sum(texts, bound, argument)), collapse = "\n  ")
+}
+
+# What doubles beside fractions have to do with a sum, and how they are read as these fractions.
+cure_of_sum <- function(texts, bound, argument) {
+  sentences <- beside_sentences(texts)
+  if (length(sentences) == 0) return(NULL)
+  found <- beside(texts)$fraction
+  meant <- sum_of(fraction(ifelse(is.na(found), texts, found)))
+  c(
+    paste0("Of the doubles, ", listed(sentences, 3L), "."),
+    if (meant == bound && !is.null(argument)) sprintf("as_exact(%s, total = %s) reads them as the fractions that sum to %s.", argument,
+      as.character(bound), as.character(bound))
+  )
 }
 
 # The proved call reads an expression with epsilon.
-row_sentence <- function(name, component, reading) {
-  texts <- vapply(reading$edges[[component]][name, ], canonical_edge, "", USE.NAMES = FALSE)
+row_sentence <- function(i, component, graph) {
+  given <- unname(component$edges[i, ])
+  what <- paste("The edges from", graph$labels[i])
+  texts <- vapply(given, canonical_edge, "", USE.NAMES = FALSE)
   total <- sum_of(numbers_of(texts))
-  what <- in_component(paste("The edges from", name), component, reading)
-  if (!is_quotients(total)) return(sum_sentence(what, total))
-  sprintf("%s sum to %s, which is above 1.", what, text_of(total))
+  if (is_quotients(total)) return(sprintf("%s sum to %s, which is above 1.", what, text_of(total)))
+  sum_sentence(what, given, argument = "transitions")
 }
 
-levels_sentence <- function(name, reading) {
-  levels <- reading$levels[[name]]
-  if (is.null(levels)) return("")
-  over <- Filter(nzchar, lapply(levels, function(it) sum_sentence(paste("The levels of", name), it$levels, it$bound)))
+levels_sentence <- function(name, case) {
+  rows <- case$levels[[name]]
+  over <- Filter(nzchar, lapply(rows, function(it) {
+    sum_sentence(paste("The levels of", label_of(name, case$graph)), it$levels, it$bound)
+  }))
   if (length(over)) over[[1]] else ""
 }

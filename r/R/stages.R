@@ -2,100 +2,117 @@
 
 graph_stages <- function(graph, levels, looks = NULL, alpha = 0.025, at = 1) {
   check_graph(graph)
-  alpha <- as_exact(alpha)
-  plan <- stage_plan(graph, levels, alpha, at)
+  alpha <- exact_of(alpha, "alpha")
+  plan <- stage_plan(graph, levels, level_text_of(alpha), at)
   looks <- read_looks(graph, looks)
   lines <- c(
-    paste("stages", plan$count),
+    paste("stages", whole_text(plan$count)),
     unlist(lapply(plan$spends, `[[`, "lines")),
-    if (nrow(looks)) paste("arrive", looks$name, looks$stage, looks$read)
+    if (nrow(looks)) paste("arrive", looks$name, whole_text(looks$stage), looks$read)
   )
-  text <- case_text(graph, as_text(alpha$read), stages = lines)
-  report <- ask("stages", text, reading = reading_of(graph, levels_read(plan)))
-  new_stages(graph, plan, looks, report, text)
+  text <- case_text(graph, level_text_of(alpha), stages = lines)
+  case <- handed(text, graph, levels = stats::setNames(lapply(plan$spends, `[[`, "rows"), graph$names), looks = looks)
+  new_stages(graph, plan, looks, ask("stages", case), text)
 }
 
-levels_read <- function(plan) stats::setNames(lapply(plan$spends, `[[`, "rows"), names(plan$spends))
-
-# What each hypothesis spends, by name.
+# What each hypothesis spends, in the order of the graph.
 stage_plan <- function(graph, levels, alpha, at) {
-  if (is.matrix(levels)) levels <- stats::setNames(lapply(seq_len(nrow(levels)), function(i) levels[i, ]), rownames(levels))
-  if (!is.list(levels)) stop("levels is a list with a vector or a matrix for each hypothesis", call. = FALSE)
-  levels <- in_order(levels, graph, "levels")
-  if (length(levels) != length(graph$names)) stop("give levels for each hypothesis", call. = FALSE)
-  at <- if (is.null(names(at)) && length(at) == 1) rep(at, length(graph$names)) else in_order(at, graph, "at")
-  at <- as_exact(unname(at))$read
-  spends <- Map(function(name, own, from) {
-    if (is.matrix(own)) table_of(name, own, alpha) else list_of(name, own, alpha, from)
-  }, graph$names, unname(levels), at)
-  count <- ncol_or_length(levels[[1]])
-  list(count = count, spends = spends)
+  levels <- arranged(levels_by_hypothesis(levels, graph), hypothesis_keys(graph), "levels", length(graph$names))
+  from <- exact_vector(at, "at")
+  if (is.null(from$names) && length(from) == 1) from <- from[rep(1L, length(graph$names))]
+  from <- number_texts(arranged(from, hypothesis_keys(graph), "at", length(graph$names)), "at")
+  spends <- Map(function(name, label, own, from) {
+    what <- paste0("levels: ", quoted(label))
+    if (length(dim(own)) == 2) spend_table(name, what, own, alpha) else spend_list(name, what, own, alpha, from)
+  }, graph$names, graph$labels, unname(levels), from)
+  counts <- unname(vapply(spends, `[[`, 1L, "count"))
+  other <- which(counts != counts[1])
+  if (length(other)) {
+    stop_at("levels", quoted(graph$labels[other[1]]), " has ", whole_text(counts[other[1]]), " stages, and ", quoted(graph$labels[1]), " ",
+      whole_text(counts[1]))
+  }
+  list(count = counts[1], spends = unname(spends))
 }
 
-ncol_or_length <- function(x) if (is.matrix(x)) ncol(x) else length(x)
+# The levels as a list. In a matrix or a data frame that side belongs to the hypotheses that has their names.
+levels_by_hypothesis <- function(levels, graph) {
+  if (is.list(levels) && !is.data.frame(levels) && !inherits(levels, "welungad_exact")) return(levels)
+  if (!is.data.frame(levels) && length(dim(levels)) != 2) {
+    stop_at("levels", "a list is needed with a vector or a matrix for each hypothesis, or a matrix that names the hypotheses")
+  }
+  read <- if (is.data.frame(levels)) exact_frame(levels, "levels") else exact_of(levels, "levels")
+  known <- unlist(hypothesis_keys(graph))
+  named <- vapply(1:2, function(side) length(read$dimnames[[side]]) > 0 && all(read$dimnames[[side]] %in% known), NA)
+  if (sum(named) != 1) {
+    stop_at("levels", if (any(named)) "both rows and columns" else "neither rows nor columns", " of the table name the hypotheses")
+  }
+  side <- which(named)
+  parts <- lapply(seq_len(read$dim[side]), function(k) if (side == 1L) unname(read[k, ]) else unname(read[, k]))
+  stats::setNames(parts, read$dimnames[[side]])
+}
 
 # A vector: the levels that the hypothesis has at its stages while its weight is `from`; at other weights in proportion.
-list_of <- function(name, levels, alpha, from) {
-  values <- fraction(as_exact(unname(levels))$read)
-  whole <- fraction(alpha$read) * fraction(from)
+spend_list <- function(name, what, levels, alpha, from) {
+  levels <- unname(exact_vector(levels, what))
+  values <- fraction(number_texts(levels, what))
+  whole <- fraction(alpha) * fraction(from)
+  if (anyNA(values) || length(values) == 0) stop_at(what, "a number is needed for each stage")
+  if (is.na(whole) || whole == 0) stop_at("at", "a weight above 0 is needed, and a level alpha above 0")
   parts <- as.character(values / gmp::as.bigq(rep(whole, length(values))))
   list(
     kind = "spend",
+    count = length(values),
     lines = paste(c("spend", name, parts), collapse = " "),
-    rows = list(list(levels = values, bound = whole)),
+    rows = list(list(levels = levels$read, bound = whole)),
     parts = parts
   )
 }
 
 # A matrix: a row of levels from each weight on. The weights are its row names.
-table_of <- function(name, levels, alpha) {
-  from <- rownames(levels)
-  if (is.null(from)) stop("a matrix of levels has row names: the weights from which its rows count", call. = FALSE)
-  texts <- matrix(as_text(as_exact(as.vector(levels))$read), nrow(levels))
+spend_table <- function(name, what, levels, alpha) {
+  read <- if (is.data.frame(levels)) exact_frame(levels, what) else exact_of(levels, what)
+  from <- read$dimnames[[1]]
+  if (is.null(from)) stop_at(what, "a matrix of levels has row names: the weights from which its rows count")
+  from <- number_texts(exact_of(from, what), what)
+  wrong <- which(is.na(fraction(from)))
+  if (length(wrong)) stop_at(what, "the row name ", quoted(from[wrong[1]]), " is not a weight")
+  texts <- matrix(number_texts(read, what), read$dim[1])
   lines <- vapply(seq_along(from), function(i) paste(c("table", name, from[i], texts[i, ]), collapse = " "), "")
-  rows <- lapply(seq_along(from), function(i) {
-    list(levels = fraction(texts[i, ]), bound = fraction(alpha$read) * fraction(from[i]))
-  })
-  list(kind = "table", lines = lines, rows = rows, from = from, texts = texts)
+  rows <- lapply(seq_along(from), function(i) list(levels = texts[i, ], bound = fraction(alpha) * fraction(from[i])))
+  list(kind = "table", count = ncol(texts), lines = lines, rows = rows, from = from, texts = texts)
 }
 
 # The looks in the order in which they arrive.
 read_looks <- function(graph, looks) {
-  none <- data.frame(name = character(), label = character(), stage = integer(), read = character(), stringsAsFactors = FALSE)
-  if (is.null(looks)) return(none)
+  if (is.null(looks)) return(table_of(name = character(), label = character(), stage = integer(), read = character()))
   if (!is.data.frame(looks) || !all(c("hypothesis", "stage", "p") %in% names(looks))) {
-    stop("looks is a data frame with the columns hypothesis, stage and p", call. = FALSE)
+    stop_at("looks", "a data frame with the columns hypothesis, stage and p is needed")
   }
-  if (nrow(looks) == 0) return(none)
-  at <- positions_of(graph, as.character(looks$hypothesis))
-  p <- read_p(if (is.factor(looks$p)) as.character(looks$p) else looks$p, graph$labels[at])
-  data.frame(name = graph$names[at], label = graph$labels[at], stage = as.integer(looks$stage), read = as_text(p$read),
-    stringsAsFactors = FALSE)
+  if (is_number(looks$hypothesis)) stop_at("looks", "the column hypothesis has numbers, and not the names of hypotheses")
+  at <- positions_of(graph, as.character(looks$hypothesis), "looks")
+  stage <- whole_numbers(looks$stage, "looks: stage")
+  read <- column_of(looks, match("p", names(looks)), "looks")
+  missing <- which(is.na(read$read))
+  if (length(missing)) stop_at("looks", "the p-value of row ", whole_text(missing[1]), " is missing")
+  if (any(read$rule == "shortest decimal")) read <- round_small(read, graph$labels[at])
+  table_of(name = graph$names[at], label = graph$labels[at], stage = stage, read = number_texts(read, "looks"))
 }
 
 # The report of `stages` as a result.
-new_stages <- function(graph, plan, looks, lines, text) {
-  words <- strsplit(lines, " ", fixed = TRUE)
-  first <- vapply(words, `[`, "", 1L)
-  arrival <- cumsum(first == "arrive")
-  arrived <- words[first == "arrive"]
-  rejects <- words[first == "reject"]
-  name <- vapply(rejects, `[`, "", 2L)
-  stage <- as.integer(vapply(rejects, `[`, "", 4L))
-  weight <- vapply(rejects, `[`, "", 6L)
-  alpha <- words_after(lines, "alpha")
-  level <- vapply(seq_along(rejects), function(i) level_at(plan$spends[[name[i]]], stage[i], weight[i], alpha), "")
+new_stages <- function(graph, plan, looks, report, text) {
+  at <- match(report$rejects[2, ], graph$names)
+  stage <- as.integer(report$rejects[4, ])
+  weight <- report$rejects[6, ]
+  level <- vapply(seq_along(at), function(i) level_at(plan$spends[[at[i]]], stage[i], weight[i], report$alpha), "")
   structure(list(
     graph = graph,
-    alpha = alpha,
+    alpha = report$alpha,
     plan = plan,
-    looks = data.frame(look = seq_along(arrived), hypothesis = looks$label, stage = looks$stage,
-      p = vapply(arrived, `[`, "", 4L), stringsAsFactors = FALSE),
-    rejections = data.frame(look = arrival[first == "reject"], hypothesis = graph$labels[match(name, graph$names)], stage = stage,
-      weight = weight, level = level, stringsAsFactors = FALSE),
-    rejected = stats::setNames(graph$names %in% words_after(lines, "rejected"), graph$names),
+    looks = table_of(look = seq_along(looks$label), hypothesis = looks$label, stage = looks$stage, p = report$p),
+    rejections = table_of(look = report$arrival, hypothesis = graph$labels[at], stage = stage, weight = weight, level = level),
+    rejected = stats::setNames(report$rejected, graph$labels),
     case = text,
-    report = lines
+    report = report$lines
   ), class = "welungad_stages")
 }
 
@@ -103,7 +120,7 @@ new_stages <- function(graph, plan, looks, lines, text) {
 level_at <- function(spend, stage, weight, alpha) {
   weight <- fraction(weight)
   if (spend$kind == "spend") return(as.character(fraction(spend$parts[stage]) * weight * fraction(alpha)))
-  row <- which(fraction(spend$from) <= weight)
+  row <- which(as.logical(fraction(spend$from) <= weight))
   if (length(row)) as.character(fraction(spend$texts[max(row), stage])) else "0"
 }
 
@@ -120,9 +137,21 @@ as.data.frame.welungad_stages <- function(x, ..., exact = FALSE) {
   looks
 }
 
+format.welungad_stages <- function(x, ...) {
+  n <- length(x$graph$names)
+  paste0("Staged test of ", n, if (n == 1) " hypothesis" else " hypotheses", " at ", x$plan$count, " stages, level ", level_text(x$alpha))
+}
+
+# The rejections, a row each.
+summary.welungad_stages <- function(object, ...) {
+  table <- object$rejections
+  table$weight <- double_of(table$weight)
+  table$level <- double_of(table$level)
+  table
+}
+
 print.welungad_stages <- function(x, exact = FALSE, digits = 6, ...) {
-  cat("Staged test of ", length(x$graph$names), " hypotheses at ", x$plan$count, " stages, level ", level_text(x$alpha), "\n",
-    sep = "")
+  cat(format(x), "\n", sep = "")
   for (i in seq_along(x$plan$spends)) print_spend(x$graph$labels[i], x$plan$spends[[i]], x$alpha, digits)
   if (nrow(x$looks)) {
     table <- as.data.frame(x, exact = exact)

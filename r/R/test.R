@@ -1,67 +1,64 @@
 # Decisions.
 
 graph_test <- function(graph, p, alpha = 0.025, priority = c("first", "last", "ratio")) {
-  priority <- match.arg(priority)
+  priority <- if (missing(priority)) "first" else match.arg(priority)
   case <- case_of(graph, p, alpha)
-  lines <- ask(c("test", if (priority != "first") c("--priority", priority)), case$text, reading = reading_of(graph))
-  new_test(graph, lines, priority, case)
+  new_test(ask(c("test", if (priority != "first") c("--priority", priority)), case), priority, case)
 }
 
 # The report of `test` as a result.
-new_test <- function(graph, lines, priority, case) {
-  names <- graph$names
-  words <- strsplit(lines, " ", fixed = TRUE)
-  first <- vapply(words, `[`, "", 1L)
-  steps <- words[first == "step"]
-  kept <- words[first == "kept"]
-  adjusted <- words[first == "adjusted"]
-  order <- vapply(steps, `[`, "", 3L)
-  tested <- c(order, vapply(kept, `[`, "", 2L))
-  at <- match(names, tested)
-  values <- vapply(adjusted, `[`, "", 3L)[match(names, vapply(adjusted, `[`, "", 2L))]
-  reached <- !lengths(adjusted)[match(names, vapply(adjusted, `[`, "", 2L))] > 3L
+new_test <- function(report, priority, case) {
+  graph <- case$graph
+  labels <- graph$labels
+  named <- function(x) {
+    names(x) <- labels
+    x
+  }
+  rejected <- logical(length(labels))
+  rejected[report$order] <- TRUE
   structure(list(
     graph = graph,
-    alpha = words_after(lines, "alpha"),
+    alpha = report$alpha,
     priority = priority,
-    rejected = stats::setNames(names %in% words_after(lines, "rejected"), names),
-    adjusted = stats::setNames(double_of(values), names),
-    reached = stats::setNames(reached, names),
-    order = order,
-    exact = data.frame(
-      hypothesis = names,
-      p = c(vapply(steps, `[`, "", 5L), vapply(kept, `[`, "", 4L))[at],
-      weight = c(vapply(steps, `[`, "", 7L), vapply(kept, `[`, "", 6L))[at],
-      adjusted = values,
-      stringsAsFactors = FALSE
-    ),
+    rejected = named(rejected),
+    adjusted = named(double_of(report$adjusted)),
+    reached = named(report$reached),
+    order = labels[report$order],
+    exact = table_of(hypothesis = labels, p = report$p, weight = report$weight, adjusted = report$adjusted),
     read = case$p,
     case = case$text,
-    report = lines
+    report = report$lines
   ), class = "welungad_test")
+}
+
+# A data frame of columns of one length, without the checks that take data.frame its time.
+table_of <- function(...) {
+  columns <- list(...)
+  structure(columns, class = "data.frame", row.names = .set_row_names(length(columns[[1]])))
 }
 
 # A row for each hypothesis: its p-value, its weight and local level when it was rejected or in the end, and its adjusted
 # p-value.
 as.data.frame.welungad_test <- function(x, ..., exact = FALSE) {
-  level <- as.character(fraction(x$exact$weight) * fraction(x$alpha))
-  step <- match(x$exact$hypothesis, x$order)
   number <- if (exact) identity else double_of
   data.frame(
     hypothesis = x$graph$labels,
     p = number(x$exact$p),
     weight = number(x$exact$weight),
-    level = number(level),
+    level = number(levels_of(x)),
     rejected = unname(x$rejected),
-    step = step,
+    step = match(x$exact$hypothesis, x$order),
     adjusted = number(x$exact$adjusted),
     reached = unname(x$reached),
     stringsAsFactors = FALSE
   )
 }
 
+levels_of <- function(x) as.character(fraction(x$exact$weight) * fraction(x$alpha))
+
 # The rejections in their order, a row each.
 graph_rejections <- function(x, exact = FALSE) {
+  if (!inherits(x, "welungad_test")) stop_at("x", "a result of graph_test is needed")
   table <- as.data.frame(x, exact = exact)
   table <- table[order(table$step), c("step", "hypothesis", "p", "weight", "level")]
   table <- table[!is.na(table$step), ]
@@ -69,13 +66,40 @@ graph_rejections <- function(x, exact = FALSE) {
   table
 }
 
-print.welungad_test <- function(x, exact = FALSE, digits = 6, ...) {
+# The rows of some hypotheses, by label or position.
+`[.welungad_test` <- function(x, i, ...) {
+  table <- as.data.frame(x)
+  row.names(table) <- table$hypothesis
+  at <- positions_of(x$graph, i, "i")
+  table[at, ]
+}
+
+format.welungad_test <- function(x, ...) {
   n <- length(x$graph$names)
-  cat("Graphical test of ", n, if (n == 1) " hypothesis" else " hypotheses", " at level ", level_text(x$alpha), sep = "")
-  if (x$priority != "first") cat(", priority", x$priority)
-  cat("\n")
+  paste0("Graphical test of ", n, if (n == 1) " hypothesis" else " hypotheses", " at level ", level_text(x$alpha),
+    if (x$priority != "first") paste(", priority", x$priority))
+}
+
+# The table of the rejections and how many there are.
+summary.welungad_test <- function(object, ...) {
+  structure(list(head = format(object), rejections = graph_rejections(object), hypotheses = length(object$graph$names)),
+    class = "welungad_summary")
+}
+
+print.welungad_summary <- function(x, digits = 6, ...) {
+  cat(x$head, "\n", sep = "")
+  cat(nrow(x$rejections), "of", x$hypotheses, "are rejected\n")
+  table <- x$rejections
+  if (nrow(table)) {
+    write_table(cbind(step = table$step, hypothesis = table$hypothesis, p = shown(table$p, digits),
+      weight = shown(table$weight, digits), level = shown(table$level, digits)))
+  }
+  invisible(x)
+}
+
+print.welungad_test <- function(x, exact = FALSE, digits = 6, ...) {
+  cat(format(x), "\n", sep = "")
   table <- as.data.frame(x, exact = exact)
-  close <- near_ties(x, digits)
   write_table(cbind(
     hypothesis = table$hypothesis,
     p = shown(table$p, digits),
@@ -86,32 +110,46 @@ print.welungad_test <- function(x, exact = FALSE, digits = 6, ...) {
     adjusted = paste0(shown(table$adjusted, digits), ifelse(table$reached, "", " not reached"))
   ))
   print_rejected(x)
+  close <- near_ties(x, digits)
   if (length(close) && !exact) {
     cat("The p-value of ", paste(close, collapse = ", "), " and its level agree in the digits shown; ",
       "print(x, exact = TRUE) shows the fractions.\n", sep = "")
   }
+  for (note in tie_notes(x)) cat(strwrap(note, width = 100, exdent = 2), sep = "\n")
   print_read(as_read(x$read))
   invisible(x)
 }
 
-# Numbers for display: doubles one by one, so that a small one has its digits; texts as they are.
-shown <- function(x, digits) {
-  if (is.character(x)) return(x)
-  vapply(x, function(value) if (is.na(value)) "" else format(value, digits = digits), "")
-}
+# Numbers for display: doubles with so many digits; texts as they are.
+shown <- function(x, digits) if (is.character(x)) x else ifelse(is.na(x), "", decimal_text(x, digits))
 
 level_text <- function(alpha) {
-  decimal <- format(double_of(alpha), digits = 6)
+  decimal <- decimal_text(double_of(alpha), 6)
   if (decimal == alpha) alpha else paste0(decimal, " (", alpha, ")")
 }
 
 # The labels whose p-value and level look equal and are not.
 near_ties <- function(x, digits) {
-  numbers <- as.data.frame(x)
-  fractions <- as.data.frame(x, exact = TRUE)
-  alike <- shown(numbers$p, digits) == shown(numbers$level, digits) & fractions$p != fractions$level
+  levels <- levels_of(x)
+  alike <- decimal_text(double_of(x$exact$p), digits) == decimal_text(double_of(levels), digits) & x$exact$p != levels
   x$graph$labels[alike]
 }
+
+# A sentence for each p-value that is a double beside a fraction, on the other side of its level than the fraction.
+tie_notes <- function(x) {
+  doubles <- which(x$read$rule == "shortest decimal")
+  found <- beside(x$read$read[doubles])
+  has <- !is.na(found$fraction)
+  at <- doubles[has]
+  if (length(at) == 0) return(character())
+  level <- levels_of(x)[at]
+  meant <- found$fraction[has]
+  decides <- as.logical(fraction(x$exact$p[at]) <= fraction(level)) != as.logical(fraction(meant) <= fraction(level))
+  sprintf("The p-value %s of %s is %s %s; its level is %s, and the p-value %s would be on the other side of it.",
+    x$read$given[at], x$graph$labels[at], units_text_of(found$units[has]), meant, level, meant)[decides]
+}
+
+units_text_of <- function(units) vapply(units, units_text, "")
 
 print_rejected <- function(x) {
   labels <- x$graph$labels[x$rejected]

@@ -5,10 +5,11 @@
 Shows the exact number that the package reads for each number that it is given.
 }
 \usage{
-as_exact(x)
+as_exact(x, total = NULL)
 }
 \arguments{
-  \item{x}{doubles, integers, texts, or fractions of gmp.}
+  \item{x}{doubles, integers, texts, fractions of gmp, or whole numbers of bit64: a vector, a matrix or a data frame.}
+  \item{total}{what the numbers have to sum to, or each row of a matrix; \code{NULL} if no sum is asked for.}
 }
 \details{
 A text is taken as it stands. A double \code{x} is read as n/d with the least d up to 10,000 for which R computes
@@ -17,12 +18,27 @@ A text is taken as it stands. A double \code{x} is read as n/d with the least d 
 So 1/3 typed in R is 1/3, 0.025 is 1/40, and 0.3333 is 3333/10000. The sum 0.1 + 0.2 is 0.30000000000000004, since R's sum
 is not the double of 3/10.
 
+With \code{total}, a double that is at most four units in the last place beside a fraction with a denominator up to 10,000 is
+read as this fraction. If the numbers then do not sum to the total exactly, that is an error. In a matrix each row has to, but
+a row of zeros may stay.
+
+A data frame is read column by column. A text that R writes for a fraction, as \code{"0.3333333"} for 1/3, is read as it is
+written, with a warning of class \code{welungad_written}: texts of 7 digits and denominators up to 1,000, and texts of 15 digits
+and denominators up to 10,000.
+
 \code{NaN} and infinite numbers are refused. A missing number stays missing; what needs it refuses it.
 }
 \value{
-An object of class \code{welungad_exact} with the parts \code{given}, \code{read} (the text that is handed to the program), \code{rule} and \code{names}. \code{as.character} gives the texts, and \code{as.data.frame} a table.
+An object of class \code{welungad_exact} with the parts \code{given}, \code{read} (the text that is handed to the program) and
+\code{rule}. It keeps names, and the rows and columns of a matrix. \code{[}, \code{c}, \code{names} and \code{unname} work as for
+other vectors. \code{as.character} and \code{format} give the texts, \code{summary} how many numbers were read by each rule, and
+\code{as.data.frame} a table.
+}
+\seealso{
+\code{\link{graph_create}}, which takes such numbers.
 }
 \examples{
 as_exact(c(1 / 3, 0.025, 0.3333, 0.1 + 0.2))
 as_exact(c("1/3", "1-\\\\epsilon"))
+as_exact(seq(0.1, 0.4, 0.1), total = 1)
 }

@@ -13,8 +13,8 @@ bound_of(x, hypotheses)
 }
 \arguments{
   \item{graph}{a graph, as \code{\link{graph_create}}, \code{\link{graph_entangle}}, \code{\link{graph_catalogue}} or \code{\link{graph_read}} makes it.}
-  \item{p}{the p-values: doubles, texts, or fractions of gmp, read as \code{\link{as_exact}} says. A vector with names is put in the order of the hypotheses. A double whose denominator would pass 10^30 is rounded up to a multiple of 10^-30, with a message of class \code{welungad_rounded}.}
-  \item{alpha}{the level: above 0, at most 1, with at most four decimals.}
+  \item{p}{the p-values: doubles, texts, or fractions of gmp, read as \code{\link{as_exact}} says. They are put in the order of the hypotheses by their names, if they have names: a vector, one row or column of a matrix or a data frame, or the columns \code{hypothesis} and \code{p} of a data frame. A double whose denominator would pass 10^30 is rounded up to a multiple of 10^-30, with a message of class \code{welungad_rounded}.}
+  \item{alpha}{the level: above 0, at most 1, a fraction of whole numbers up to 10,000, so a decimal has at most four digits after the point.}
   \item{x}{a result of \code{graph_bounds} or \code{graph_simes}.}
   \item{hypotheses}{a set of hypotheses, by name, label or position.}
 }
@@ -23,7 +23,11 @@ Nothing is claimed of when Simes' test is valid under dependence. What it reject
 }
 \value{
 An object of class \code{welungad_bounds} with the parts \code{sets} and \code{bound}. A result of \code{graph_simes} also has
-\code{top}, the bounds of the hypotheses with the least p-values, and \code{rejected}. \code{bound_of} gives the bound of one set.
+\code{top}, the bounds of the hypotheses with the least p-values, and \code{rejected}. \code{bound_of} gives the bound of one set; \code{x[i]} has some of the sets, and \code{summary} counts sets by size and bound.
+}
+\references{
+Goeman, J. J. and Solari, A. (2011) Multiple testing for exploratory research. \emph{Statistical Science} \bold{26}, 584--597.
+\doi{10.1214/11-STS356}
 }
 \seealso{
 \code{\link{graph_test_closure}}

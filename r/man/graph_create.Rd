@@ -8,22 +8,29 @@ Makes a graph of hypotheses with weights, and edges that say where the weight of
 graph_create(hypotheses, transitions, hyp_names = NULL, labels = NULL)
 }
 \arguments{
-  \item{hypotheses}{the weights, which sum to at most 1. Their names, if there are any, name the hypotheses.}
-  \item{transitions}{a square matrix: the edge from the hypothesis of the row to that of the column. Each row sums to at most 1. An edge may hold an infinitesimal epsilon, as the text \code{1-\\epsilon} does.}
-  \item{hyp_names}{the names of the hypotheses; if absent, those of \code{hypotheses}, else those of the rows, else H1, H2 and so on.}
-  \item{labels}{what is shown for each hypothesis; if absent, the names.}
+  \item{hypotheses}{the weights, which sum to at most 1: a vector, one row or column of a matrix or a data frame, or the columns \code{hypothesis} and \code{weight} of a data frame. Their names, if there are any, name the hypotheses.}
+  \item{transitions}{a square matrix or data frame: the edge from the hypothesis of the row to that of the column. Rows and columns with names are put in the order of the hypotheses. Each row sums to at most 1. An edge may hold an infinitesimal epsilon, as the text \code{1-\\epsilon} does.}
+  \item{hyp_names}{the names of the hypotheses; if absent, those of \code{hypotheses}, else those of the rows, of the columns, else H1, H2 and so on. Names are distinct.}
+  \item{labels}{what is shown for each hypothesis; if absent, the names. Labels are distinct, and none is the name of another hypothesis.}
 }
 \details{
 Numbers are read as \code{\link{as_exact}} says. \code{print} shows the exact numbers, and which doubles were read as another
 number than their decimal.
 
 The program's names are 1 to 32 ASCII letters, digits, underscores, points and hyphens. Any other text can be a label: the
-package makes a name of it, and shows the label.
+package makes a name of it, and shows the label. Results are named by labels, and hypotheses can be given by either.
+
+There is no test that uses the correlation of the test statistics (parametric tests), and no computation of power; see
+\code{\link{graph_test_many}} for the latter.
 
 A refusal of the program is a condition of class \code{welungad_refusal}; see \code{\link{welungad_run}}.
 }
 \value{
-An object of class \code{welungad_graph}: \code{names}, \code{labels}, and \code{components}, each with its \code{share}, its \code{weights} and its \code{edges} as exact texts. It has methods for \code{print}, \code{plot} and \code{as.data.frame}.
+An object of class \code{welungad_graph}: \code{names}, \code{labels}, and \code{components}, each with its \code{share}, its \code{weights} and its \code{edges} as exact texts. It has methods for \code{print}, \code{plot}, \code{format}, \code{summary} and \code{as.data.frame}.
+}
+\references{
+Bretz, F., Maurer, W., Brannath, W. and Posch, M. (2009) A graphical approach to sequentially rejective multiple test procedures.
+\emph{Statistics in Medicine} \bold{28}, 586--604. \doi{10.1002/sim.3495}
 }
 \seealso{
 \code{\link{graph_test}}, \code{\link{graph_entangle}}, \code{\link{graph_catalogue}}

@@ -9,9 +9,9 @@ graph_stages(graph, levels, looks = NULL, alpha = 0.025, at = 1)
 }
 \arguments{
   \item{graph}{a graph, as \code{\link{graph_create}}, \code{\link{graph_entangle}}, \code{\link{graph_catalogue}} or \code{\link{graph_read}} makes it.}
-  \item{levels}{a list with the levels of each hypothesis at the stages, or a matrix with a row for each hypothesis. A vector has the levels that hold while the weight of the hypothesis is \code{at}; at another weight they are in proportion. A matrix is a table: each row has levels, and its row name is the weight from which it counts.}
-  \item{looks}{a data frame with a row for each p-value in the order in which they arrive, with the columns \code{hypothesis}, \code{stage} and \code{p}.}
-  \item{alpha}{the level: above 0, at most 1, with at most four decimals.}
+  \item{levels}{a list with the levels of each hypothesis at the stages, or a matrix or a data frame whose rows or whose columns, but not both, are named by the hypotheses. A vector has the levels that hold while the weight of the hypothesis is \code{at}; at another weight they are in proportion. A matrix is a table: each row has levels, and its row name is the weight from which it counts.}
+  \item{looks}{a data frame with a row for each p-value in the order in which they arrive, with the columns \code{hypothesis} (a name or a label), \code{stage} (a whole number) and \code{p}.}
+  \item{alpha}{the level: above 0, at most 1, a fraction of whole numbers up to 10,000, so a decimal has at most four digits after the point.}
   \item{at}{the weight at which the vectors of levels hold: one number, or one for each hypothesis.}
 }
 \details{
@@ -27,8 +27,12 @@ A refusal of the program is a condition of class \code{welungad_refusal}; see \c
 An object of class \code{welungad_stages} with the parts \code{looks}, \code{rejections} (with stage, weight and level), \code{rejected},
 \code{case} and \code{report}.
 }
+\references{
+Maurer, W. and Bretz, F. (2013) Multiple testing in group sequential trials using graphical approaches. \emph{Statistics in
+Biopharmaceutical Research} \bold{5}, 311--320. \doi{10.1080/19466315.2013.807748}
+}
 \seealso{
-\code{\link{graph_test}}
+\code{\link{graph_test}}; \code{\link{graph_study}}, which keeps looks in a file
 }
 \examples{
 \dontshow{if (welungad_found()) withAutoprint(\{ # examples need the program or its library}

@@ -11,8 +11,8 @@ graph_rejections(x, exact = FALSE)
 }
 \arguments{
   \item{graph}{a graph, as \code{\link{graph_create}}, \code{\link{graph_entangle}}, \code{\link{graph_catalogue}} or \code{\link{graph_read}} makes it.}
-  \item{p}{the p-values: doubles, texts, or fractions of gmp, read as \code{\link{as_exact}} says. A vector with names is put in the order of the hypotheses. A double whose denominator would pass 10^30 is rounded up to a multiple of 10^-30, with a message of class \code{welungad_rounded}.}
-  \item{alpha}{the level: above 0, at most 1, with at most four decimals.}
+  \item{p}{the p-values: doubles, texts, or fractions of gmp, read as \code{\link{as_exact}} says. They are put in the order of the hypotheses by their names, if they have names: a vector, one row or column of a matrix or a data frame, or the columns \code{hypothesis} and \code{p} of a data frame. A double whose denominator would pass 10^30 is rounded up to a multiple of 10^-30, with a message of class \code{welungad_rounded}.}
+  \item{alpha}{the level: above 0, at most 1, a fraction of whole numbers up to 10,000, so a decimal has at most four digits after the point.}
   \item{priority}{which hypothesis is rejected first if several may be: the \code{first} or the \code{last} by position, or that with the least \code{ratio} of p-value to weight. What is rejected in the end is the same for each.}
   \item{x}{a result of \code{graph_test}.}
   \item{exact}{whether numbers are exact texts and not doubles.}
@@ -22,18 +22,26 @@ A row of the table has the p-value, the weight and the local level (weight times
 for a hypothesis that is not rejected, those in the end. The adjusted p-value is the least level at which the hypothesis is
 rejected.
 
+There are no parametric tests, which use the correlation of the test statistics.
+
 A refusal of the program is a condition of class \code{welungad_refusal}; see \code{\link{welungad_run}}.
 }
 \value{
-An object of class \code{welungad_test} with the parts \code{rejected} (a logical vector with names), \code{adjusted} (the
+An object of class \code{welungad_test} with the parts \code{rejected} (a logical vector, named by labels), \code{adjusted} (the
 adjusted p-values as doubles), \code{reached} (whether the closed test rejects the hypothesis at any level up to 1),
-\code{order} (the names of the rejected in their order), \code{exact} (the exact numbers), \code{case} (the text that was handed
+\code{order} (the labels of the rejected in their order), \code{exact} (the exact numbers), \code{case} (the text that was handed
 in) and \code{report} (the lines of the answer).
 
 \code{print(x, exact = TRUE)} and \code{as.data.frame(x, exact = TRUE)} show fractions in place of decimals. \code{plot} marks the
-rejected hypotheses. \code{graph_rejections} gives the rejections in their order.
+rejected hypotheses. \code{graph_rejections} and \code{summary} give the rejections in their order, and \code{x[i]} the rows of some
+hypotheses. A p-value that is a double beside a fraction is named, if the fraction is on the other side of the level.
+}
+\references{
+Bretz, F., Maurer, W., Brannath, W. and Posch, M. (2009) A graphical approach to sequentially rejective multiple test procedures.
+\emph{Statistics in Medicine} \bold{28}, 586--604. \doi{10.1002/sim.3495}
 }
 \seealso{
+\code{\link{graph_test_many}},
 \code{\link{graph_steps}}, \code{\link{graph_test_closure}}, \code{\link{graph_evidence}}
 }
 \examples{

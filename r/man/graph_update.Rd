@@ -15,8 +15,9 @@ graph_steps(x)
   \item{x}{a result of \code{\link{graph_test}}.}
 }
 \details{
-The program prints weights and no edges, so the package computes the updated graphs itself, exactly. Each weight of each graph
-is compared with the weight that the program prints for the same removals, and the call stops if one differs.
+The program prints weights and no edges, so the package computes the updated graphs itself, exactly. \code{graph_update} compares
+each weight of each graph with the weight that the program prints for the same removals. \code{graph_steps} compares the weight
+of each hypothesis at its rejection, and the weights in the end, with those of the decision. Both stop if one differs.
 
 With more than 16 hypotheses the program prints no weights for the removal of a hypothesis whose weight is 0. Then
 \code{compared} is \code{FALSE}.
@@ -27,7 +28,7 @@ to one call.
 \value{
 An object of class \code{welungad_update} with the parts \code{initial_graph}, \code{updated_graph}, \code{deleted}, \code{graphs} (the
 graphs before the first removal and after each) and \code{compared}. \code{plot} draws all graphs; \code{print(x, all = TRUE)}
-shows them.
+shows them, and \code{as.data.frame} has their weights.
 }
 \seealso{
 \code{\link{graph_test}}

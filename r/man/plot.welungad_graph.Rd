@@ -2,6 +2,8 @@
 \alias{plot.welungad_graph}
 \alias{plot.welungad_test}
 \alias{plot.welungad_update}
+\alias{plot.welungad_closure}
+\alias{plot.welungad_stages}
 \title{Pictures of graphs}
 \description{
 Draws a circle with label and weight for each hypothesis, and an arrow for each edge. Base graphics alone are used.
@@ -9,17 +11,21 @@ Draws a circle with label and weight for each hypothesis, and an arrow for each 
 \usage{
 \method{plot}{welungad_graph}(x, layout = NULL, main = NULL, cex = 1, ...)
 \method{plot}{welungad_test}(x, layout = NULL, main = NULL, cex = 1, ...)
+\method{plot}{welungad_closure}(x, layout = NULL, main = NULL, cex = 1, ...)
+\method{plot}{welungad_stages}(x, layout = NULL, main = NULL, cex = 1, ...)
 \method{plot}{welungad_update}(x, layout = NULL, cex = 0.8, ...)
 }
 \arguments{
-  \item{x}{a graph, a decision, or updated graphs.}
-  \item{layout}{a matrix with two columns, the coordinates of each hypothesis; if absent, a square or a circle.}
+  \item{x}{a graph, a decision, a closed test, a staged test, or updated graphs.}
+  \item{layout}{a matrix with two columns, the coordinates of each hypothesis; if absent, a square or a circle. Rows with names are put in the order of the hypotheses.}
   \item{main}{a title.}
   \item{cex}{the size of texts.}
   \item{...}{unused.}
 }
 \details{
-The picture is readable up to eight hypotheses. In a picture of several graphs with shares each has a colour. In one of a decision the rejected hypotheses are green; in one of updated graphs the removed ones are grey.
+If a label does not fit into its circle, labels and weights are written beside the circles. More than 48 arrows have no numbers: if they have at most four, each has a colour, and a line below has the number of each colour.
+
+In a picture of several graphs with shares each has a colour. In one of a decision the rejected hypotheses are green; in one of updated graphs the removed ones are grey.
 }
 \value{
 The object, invisibly.

@@ -11,7 +11,8 @@ answers into tables, updated graphs and pictures. The package decides nothing it
 Begin with \code{\link{graph_create}} and \code{\link{graph_test}}. \code{\link{as_exact}} says how numbers are read, and
 \code{\link{welungad_run}} how the program is found.
 
-\code{system.file("walkthrough", "walkthrough.R", package = "welungad")} is a script of five worked cases, and
+\code{vignette("welungad")} is a walkthrough of five worked cases. \code{vignette("coming-from", package = "welungad")} is for users of
+gMCP and graphicalMCP. \code{system.file("walkthrough", "walkthrough.R", package = "welungad")} is the script of the walkthrough, and
 \code{walkthrough.txt} beside it is its output.
 }
 \keyword{package}

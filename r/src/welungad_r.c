@@ -6,6 +6,7 @@
 #include <Rinternals.h>
 #include <limits.h>
 #include <string.h>
+#include "reading.h"
 
 #ifdef WELUNGAD_LIBRARY
 #include <welungad.h>
@@ -78,6 +79,7 @@ static SEXP interface(void) { return ScalarInteger(0); }
 static const R_CallMethodDef calls[] = {
   {"welungad_call", (DL_FUNC)&welungad_call, 3},
   {"welungad_interface", (DL_FUNC)&interface, 0},
+  {"welungad_fractions", (DL_FUNC)&welungad_fractions, 2},
   {NULL, NULL, 0},
 };
 

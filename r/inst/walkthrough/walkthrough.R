@@ -1,7 +1,8 @@
 # Five cases, from graph to answer. walkthrough.txt beside this script has its output.
 library(welungad)
 
-# 1. The diabetes trial -------------------------------------------------------------------------
+## ---- diabetes ----
+# 1. The diabetes trial.
 # Two doses, each with a primary endpoint (H1, H2) and a secondary one (H3, H4). The published graph and p-values
 # (Bretz and others, 2011), at the one-sided level 0.025.
 transitions <- rbind(
@@ -27,7 +28,8 @@ graph_test_closure(diabetes, p, alpha = 0.025)
 # A lower bound on how many of H1 and H2 are false.
 bound_of(graph_bounds(diabetes, p), c("H1", "H2"))
 
-# 2. Holm's procedure with seven hypotheses, from doubles ---------------------------------------
+## ---- holm ----
+# 2. Holm's procedure with seven hypotheses, from doubles.
 # R's 1/7 and 1/6 are rounded; they are read as the fractions that they stand for.
 n <- 7
 transitions <- matrix(1 / (n - 1), n, n)
@@ -46,7 +48,8 @@ all.equal(unname(decision$adjusted), p.adjust(p, "holm"))
 refusal <- tryCatch(graph_create(c(0.3333334, 0.3333333, 0.3333334), matrix(0, 3, 3)), welungad_refusal = identity)
 cat(conditionMessage(refusal), "\n")
 
-# 3. Improved parallel gatekeeping, with epsilon ------------------------------------------------
+## ---- gatekeeping ----
+# 3. Improved parallel gatekeeping, with epsilon.
 # The secondary hypotheses pass an infinitesimal part back to the primary ones.
 improved <- graph_create(c(A = 1 / 2, B = 1 / 2, C = 0, D = 0), rbind(
   c("0", "0", "1/2", "1/2"),
@@ -62,7 +65,8 @@ decision
 # Without C the edges from D are quotients in epsilon.
 graph_update(improved, "C")
 
-# 4. A staged trial, by levels ------------------------------------------------------------------
+## ---- staged ----
+# 4. A staged trial, by levels.
 # Overall survival spends 0.003 and 0.022 while it has the whole level, and in proportion at other weights. Progression-free
 # survival has a table: the levels of a row count from its weight on.
 trial <- graph_create(c(OS = 1 / 2, PFS = 1 / 2), rbind(c(0, 1), c(1, 0)), labels = c("overall survival", "progression-free"))
@@ -74,7 +78,8 @@ looks <- data.frame(
 )
 graph_stages(trial, levels, looks, alpha = 0.025)
 
-# 5. Evidence for a reviewer --------------------------------------------------------------------
+## ---- evidence ----
+# 5. Evidence for a reviewer.
 # The sponsor archives the case in its one spelling and the evidence.
 p <- c(H1 = 0.018, H2 = 0.01, H3 = 0.105, H4 = 0.006)
 proof <- graph_evidence(diabetes, p)

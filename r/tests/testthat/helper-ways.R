@@ -14,12 +14,44 @@ each_way <- function(code) {
 # the environment variable WELUNGAD_TEST_ALL is set.
 share_of <- function(way, all, few) if (way == "library" || nzchar(Sys.getenv("WELUNGAD_TEST_ALL"))) all else few
 
+# Runs code with another program in place of Welungad.
+with_program <- function(program, code) {
+  old <- Sys.getenv("WELUNGAD", NA)
+  wish <- options(welungad.way = "program")
+  on.exit({
+    if (is.na(old)) Sys.unsetenv("WELUNGAD") else Sys.setenv(WELUNGAD = old)
+    options(wish)
+  })
+  Sys.setenv(WELUNGAD = program)
+  code
+}
+
+# A program that prints these lines, whatever it is asked, and ends with a status.
+stand_in <- function(lines, status = 0, end = "\n") {
+  program <- tempfile("stand-in-")
+  text <- tempfile("text-")
+  cat(paste(lines, collapse = "\n"), if (length(lines)) end, file = text, sep = "")
+  writeLines(c("#!/bin/sh", paste("cat", shQuote(text)), if (status >= 0) paste("exit", status) else paste("kill", status, "$$")), program)
+  Sys.chmod(program, "755")
+  program
+}
+
+# Runs code with options of R.
+with_options <- function(wish, code) {
+  old <- options(wish)
+  on.exit(options(old))
+  code
+}
+
 # Holm's graph from doubles.
 holm <- function(n) {
   edges <- matrix(1 / (n - 1), n, n)
   diag(edges) <- 0
   graph_create(rep(1 / n, n), edges)
 }
+
+# Two hypotheses, each of which passes all to the other.
+pair <- function(names = c("H1", "H2")) graph_create(stats::setNames(c(1 / 2, 1 / 2), names), rbind(0:1, 1:0))
 
 # Two doses with a primary and a secondary endpoint each (Bretz and others 2011).
 diabetes <- function() {

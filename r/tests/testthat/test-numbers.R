@@ -59,11 +59,16 @@ test_that("numerals have the values that FORMATS says", {
   expect_equal(value("5."), "5")
   expect_equal(value("2.5e-2"), "1/40")
   expect_equal(value("4/160"), "1/40")
-  for (text in c("", ".", "1/0", "1e", "1/2/3", "a", "1-\\epsilon", "--1")) expect_true(is.na(welungad:::numeral_value(text)), info = text)
+  expect_equal(value("1e-00001"), "1/10")
+  expect_equal(value("0e99999999999"), "0")
+  for (text in c("", ".", "1/0", "1e", "1/2/3", "a", "1-\\epsilon", "--1", "1 2", "1e99999999999")) {
+    expect_true(is.na(welungad:::numeral_value(text)), info = text)
+  }
 })
 
 test_that("small p-values are rounded up to multiples of 10^-30, with a message", {
-  p <- function(x) welungad:::read_p(x, "H1")$read
+  one <- list(names = "H1", labels = "H1")
+  p <- function(x) welungad:::read_p(as_exact(x), one)$read
   expect_message(expect_equal(p(1e-300), paste0("1/1", strrep("0", 30))), class = "welungad_rounded")
   expect_message(expect_equal(p(2e-31), paste0("1/1", strrep("0", 30))), "rounded up")
   expect_message(expect_equal(p(1.1e-30), paste0("1/5", strrep("0", 29))), "1.1e-30 of H1")
@@ -75,4 +80,7 @@ test_that("small p-values are rounded up to multiples of 10^-30, with a message"
 
 test_that("doubles of fractions are the ones that R computes", {
   expect_identical(welungad:::double_of(c("1/3", "2/3", "3333/10000")), c(1 / 3, 2 / 3, 0.3333))
+  expect_identical(welungad:::double_of(c("0.1", NA, "1/3", "-2", "\\epsilon", "")), c(0.1, NA, 1 / 3, -2, NA, NA))
+  long <- paste0("1", strrep("0", 20), "/3", strrep("0", 20))
+  expect_identical(welungad:::double_of(c(long, "1/2")), c(1 / 3, 1 / 2))
 })

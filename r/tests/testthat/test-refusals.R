@@ -5,7 +5,8 @@ test_that("sums above 1 are refused with their amount", {
     expect_s3_class(weights, "error")
     expect_equal(weights$status, 3L)
     expect_equal(weights$line, "malformed: case: weight sum component 1")
-    expect_equal(weights$amount, "The weights sum to 1.00000000000000004, which is 4e-17 above 1.")
+    expect_match(weights$amount, "The weights sum to 1.00000000000000004, which is 4e-17 above 1.", fixed = TRUE)
+    expect_match(conditionMessage(weights), "^hypotheses: the sum of the weights [(]malformed: case: weight sum component 1[)]\n")
     expect_match(conditionMessage(weights), "Write thirds as 1/3")
     row <- refusal_of(graph_create(c(1, 0, 0), rbind(c(0, "2/3", "0.34"), 0, 0)))
     expect_match(row$amount, "The edges from H1 sum to 151/150, which is 0.00667 above 1.", fixed = TRUE)
@@ -31,10 +32,9 @@ test_that("other refusals carry status, line and advice", {
     expect_equal(line(graph_test(graph, c(0.1, 0.2, 0.3), 1 / 12347)), "limit: case: part alpha")
     expect_equal(line(graph_create(c(NA, 0.5), matrix(0, 2, 2))), "malformed: line 3: number")
     expect_equal(line(graph_create(c(0.5, 0.5), diag(2))), "malformed: case: self edge of H1 component 1")
-    expect_equal(line(graph_create(c(A = 0.5, A = 0.5), matrix(0, 2, 2))), "malformed: case: duplicate name 2")
     expect_equal(line(graph_bounds(holm(17), rep(0.1, 17))), "limit: closure 17")
     expect_equal(line(graph_catalogue("holm", 65)), "limit: size 65")
-    expect_equal(line(graph_catalogue("hochberg", 3)), "usage: word 2")
+    expect_error(graph_catalogue("hochberg", 3), "should be one of")
     wide <- refusal_of(graph_test(graph_create(c(1, 0, 0, 0), rbind(
       c("0", "1/1000000000000000000", "0", "0"), c("0", "0", "1/999999999999999999", "0"), c("0", "0", "0", "1/999999999999999997"), "0"
     )), c(0, 0, 0, 0), 0.05))

@@ -1,5 +1,3 @@
-pair <- function() graph_create(c(1 / 2, 1 / 2), rbind(0:1, 1:0))
-
 test_that("levels become fractions of the level, or tables", {
   each_way(function(way) {
     looks <- data.frame(hypothesis = c("H1", "H2"), stage = 1, p = c(0.02, 0.012))

@@ -1,0 +1,103 @@
+# Order: whatever is given by hypothesis is put here into the order of the graph, by the names that come with it. Each
+# hypothesis has to be given exactly once, and nothing else; without names the order is that of the graph.
+
+# The places of the hypotheses among the given names. `keys` are the ways to call the hypotheses: all are called by one of them.
+places_among <- function(given, keys, what) {
+  found <- unique(lapply(keys, function(key) {
+    at <- match(key, given)
+    if (anyNA(at) || length(given) != length(key) || anyDuplicated(given)) NULL else at
+  }))
+  found <- found[!vapply(found, is.null, NA)]
+  if (length(found) == 1) return(found[[1]])
+  stop_at(what, fault_of_names(given, keys))
+}
+
+# Why names are not those of the hypotheses.
+fault_of_names <- function(given, keys) {
+  own <- paste0(": the hypotheses are ", listed(keys[[1]], 16L))
+  empty <- which(is.na(given) | !nzchar(given))
+  if (length(empty)) return(paste0(place_text(empty[1]), " has no name, and others have one"))
+  if (anyDuplicated(given)) return(paste("the name", quoted(given[duplicated(given)][1]), "occurs twice"))
+  unknown <- setdiff(given, unlist(keys))
+  if (length(unknown)) return(paste0("no hypothesis has the name ", quoted(unknown[1]), own))
+  missing <- keys[[1]][vapply(seq_along(keys[[1]]), function(i) !any(vapply(keys, `[`, "", i) %in% given), NA)]
+  if (length(missing)) return(paste("nothing is given for", quoted(missing[1])))
+  paste0("the names fit the hypotheses in more than one way", own)
+}
+
+# A vector, a list, or numbers that were read, in the order of the hypotheses. `count` is how many are needed, if it is known.
+arranged <- function(x, keys, what, count = NULL) {
+  given <- names_in(x)
+  if (!is.null(given)) {
+    if (length(keys) == 1 && identical(given, keys[[1]])) return(x)
+    return(x[places_among(given, keys, what)])
+  }
+  if (!is.null(count) && length(x) != count) {
+    stop_at(what, whole_text(length(x)), " given for ", whole_text(count), if (count == 1) " hypothesis" else " hypotheses")
+  }
+  x
+}
+
+# The numbers of a vector, whatever its class. One row or column of a matrix or of a data frame is a vector, with the names of
+# its other side; so are the columns `hypothesis` and another one of a data frame.
+exact_vector <- function(x, what) {
+  if (is.data.frame(x)) return(vector_of_frame(x, what))
+  x <- exact_of(x, what)
+  size <- x$dim
+  if (is.null(size)) return(x)
+  if (length(size) == 1) return(new_exact(x$given, x$read, x$rule, x$dimnames[[1]]))
+  if (length(size) > 2 || !any(size == 1)) stop_at(what, "a vector is needed, and not a table of ", paste(size, collapse = " by "))
+  side <- if (size[1] == 1 && (size[2] > 1 || is.null(rownames(x)))) 2L else 1L
+  new_exact(x$given, x$read, x$rule, x$dimnames[[side]])
+}
+
+vector_of_frame <- function(x, what) {
+  if ("hypothesis" %in% names(x) && length(x) == 2) {
+    values <- setdiff(seq_along(x), match("hypothesis", names(x)))
+    read <- column_of(x, values, what)
+    names(read) <- as.character(x$hypothesis)
+    return(read)
+  }
+  if (nrow(x) == 1 || length(x) == 1) return(exact_vector(exact_frame(x, what), what))
+  stop_at(what, "a data frame has one row with a column for each hypothesis, or the columns hypothesis and another one")
+}
+
+# The numbers of a data frame, column by column, since R turns a whole one with a column of texts into texts of 7 digits.
+exact_frame <- function(x, what) {
+  columns <- lapply(seq_along(x), column_of, x = x, what = what)
+  part <- function(name) unlist(lapply(columns, `[[`, name))
+  rows <- attr(x, "row.names")
+  new_exact(part("given"), part("read"), part("rule"), NULL, dim(x), list(if (is.character(rows)) rows, names(x)))
+}
+
+column_of <- function(x, j, what) {
+  read <- exact_of(x[[j]], paste0(what, ": column ", quoted(names(x)[j])))
+  if (length(read) != nrow(x)) stop_at(what, "column ", quoted(names(x)[j]), " is a table of its own")
+  names(read) <- NULL
+  read
+}
+
+# The numbers of a square matrix or data frame.
+exact_square <- function(x, what, n) {
+  read <- if (is.data.frame(x)) exact_frame(x, what) else exact_of(x, what)
+  if (!identical(as.integer(read$dim), rep(n, 2L))) {
+    stop_at(what, "a square matrix is needed, with a row and a column for each of ", whole_text(n), " hypotheses")
+  }
+  read
+}
+
+# A square matrix with rows and columns in the order of the hypotheses. If one of both sides has no names, it has the order of
+# the hypotheses, and so must the other.
+arranged_square <- function(x, keys, what) {
+  sides <- lapply(1:2, function(side) {
+    given <- x$dimnames[[side]]
+    if (is.null(given)) NULL else places_among(given, keys, paste0(what, ": ", c("rows", "columns")[side]))
+  })
+  lacks <- vapply(sides, is.null, NA)
+  plain <- seq_len(x$dim[1])
+  if (sum(lacks) == 1 && !identical(sides[[which(!lacks)]], plain)) {
+    stop_at(what, "name rows and columns, since the ", c("rows", "columns")[!lacks], " are in another order than the hypotheses")
+  }
+  sides[lacks] <- list(plain)
+  x[sides[[1]], sides[[2]]]
+}

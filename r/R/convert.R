@@ -1,0 +1,36 @@
+# Graphs of the packages graphicalMCP and gMCP, taken by the fields of their objects. Neither package is needed.
+
+as_graph <- function(x) {
+  if (inherits(x, "welungad_graph")) return(x)
+  classes <- attr(x, "class")
+  if ("initial_graph" %in% classes || "updated_graph" %in% classes) return(graph_of_list(x))
+  if ("graphMCP" %in% classes) return(graph_of_slots(x))
+  if ("entangledMCP" %in% classes) return(graph_of_entangled(x))
+  stop_at("x", "a graph of graphicalMCP (class initial_graph) or of gMCP (graphMCP, entangledMCP) is needed, and not a ", class(x)[1])
+}
+
+# graphicalMCP: a list of hypotheses and transitions.
+graph_of_list <- function(x) {
+  parts <- unclass(x)
+  if (!is.null(parts$updated_graph)) return(as_graph(parts$updated_graph))
+  graph_create(field_of(parts, "hypotheses"), field_of(parts, "transitions"))
+}
+
+# gMCP: an object with the slots m and weights. Its edges are numbers, or texts with epsilon.
+graph_of_slots <- function(x) {
+  edges <- field_of(attributes(x), "m")
+  weights <- field_of(attributes(x), "weights")
+  if (is.null(names(weights))) names(weights) <- rownames(edges)
+  graph_create(weights, edges)
+}
+
+# gMCP: graphs with a share each.
+graph_of_entangled <- function(x) {
+  graphs <- field_of(attributes(x), "subgraphs")
+  graph_entangle(lapply(unname(graphs), as_graph), shares = as.vector(field_of(attributes(x), "weights")))
+}
+
+field_of <- function(parts, name) {
+  if (is.null(parts[[name]])) stop_at("x", "the object has no part ", quoted(name))
+  parts[[name]]
+}

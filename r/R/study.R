@@ -1,0 +1,118 @@
+# Studies: looks that are kept in a file. The file has positions of hypotheses and no names, so the canonical text of the case is
+# kept beside it, and a case with another text is refused.
+
+graph_study <- function(case, store, looks = NULL) {
+  text <- study_text(case)
+  canon <- program_answer("canon", handed(text$text, text$graph))
+  graph <- if (is.null(text$graph)) graph_of_case(canon) else text$graph
+  if (length(canon$stages) == 0) stop_at("case", "a study has a staged case")
+  if (any(startsWith(canon$stages, "arrive "))) stop_at("case", "a study begins without looks: they are given to `looks`")
+  store <- checked_store(store)
+  looks <- read_looks(graph, looks)
+  hold_case(canon$lines, store)
+  commands <- c(if (nrow(looks)) paste("look", looks$name, whole_text(looks$stage), looks$read), "show")
+  new_study(graph, store, looks, run_study(text$text, graph, store, commands))
+}
+
+# The text of a case, and its graph if it is known.
+study_text <- function(case) {
+  if (inherits(case, "welungad_stages")) return(list(text = case$case, graph = case$graph))
+  if (!is.character(case) && !is.raw(case)) stop_at("case", "a result of graph_stages, or the text of a case is needed")
+  list(text = rawToChar(bytes_of(case, "case")), graph = NULL)
+}
+
+graph_of_case <- function(case) list(names = case$names, labels = case$names)
+
+checked_store <- function(store) {
+  if (!is.character(store) || length(store) != 1 || is.na(store) || store %in% c("", ":memory:") || startsWith(store, "file:")) {
+    stop_at("store", "the name of a file is needed")
+  }
+  store <- path.expand(store)
+  if (!dir.exists(dirname(store))) stop_at("store", "there is no folder ", quoted(dirname(store)))
+  store
+}
+
+case_file <- function(store) paste0(store, ".case")
+
+# Stops if the file of looks was made for another case; writes the case beside it if it is the first call. The file of the case
+# appears as a whole or not at all, and is never replaced.
+hold_case <- function(lines, store) {
+  place <- case_file(store)
+  if (!file.exists(place)) {
+    if (file.exists(store)) {
+      stop_at("store", store, " has no ", place, " beside it, so it is not known for which case it was made")
+    }
+    part <- tempfile("welungad-", dirname(store))
+    on.exit(unlink(part))
+    writeBin(charToRaw(paste0(lines, "\n", collapse = "")), part)
+    linked <- suppressWarnings(file.link(part, place))
+    if (!linked && !file.exists(place)) file.copy(part, place, overwrite = FALSE)
+  }
+  known <- readLines(place, warn = FALSE, encoding = "UTF-8")
+  if (!identical(known, lines)) {
+    own <- words_after(known, "hypotheses")
+    stop_at("store", basename(store), " was made for a case with ",
+      if (identical(own, words_after(lines, "hypotheses"))) difference_of(known, lines) else paste("hypotheses", paste(own, collapse = " ")))
+  }
+}
+
+# The first line in which the case of a file is another one.
+difference_of <- function(known, lines) {
+  at <- which(known[seq_along(lines)] != lines | is.na(known[seq_along(lines)]))
+  if (length(at) == 0) return("more lines")
+  paste0("the line ", quoted(known[at[1]]), ", and not ", quoted(lines[at[1]]))
+}
+
+# The answer of the program, which alone opens files.
+program_answer <- function(words, case) {
+  old <- options(welungad.way = "program")
+  on.exit(options(old))
+  if (!nzchar(program_path())) stop("a study needs the program welungad: ", how_to_find_program, call. = FALSE)
+  ask(words, case)
+}
+
+run_study <- function(text, graph, store, commands) {
+  file <- tempfile("welungad-commands-")
+  on.exit(unlink(file))
+  writeLines(commands, file)
+  program_answer(c("study", file, paste0("--store=", store)), handed(text, graph))
+}
+
+new_study <- function(graph, store, looks, report) {
+  labelled_rows <- function(columns) label_of(columns[2, ], graph)
+  refused <- as.integer(sub(":$", "", report$refused[2, ]))
+  structure(list(
+    graph = graph,
+    store = store,
+    alpha = report$alpha,
+    records = report$records,
+    taken = report$taken,
+    looks = table_of(hypothesis = labelled_rows(report$looks), stage = as.integer(report$looks[3, ]), p = report$looks[4, ]),
+    rejections = table_of(look = report$records + report$arrival, hypothesis = labelled_rows(report$rejects),
+      stage = as.integer(report$rejects[4, ]), weight = report$rejects[6, ]),
+    refused = table_of(row = refused, hypothesis = looks$label[refused], stage = looks$stage[refused], why = report$refused[3, ]),
+    rejected = stats::setNames(report$rejected, graph$labels),
+    report = report$lines
+  ), class = "welungad_study")
+}
+
+as.data.frame.welungad_study <- function(x, ...) x$looks
+
+format.welungad_study <- function(x, ...) {
+  paste0("Study of ", length(x$graph$names), " hypotheses in ", x$store, ", level ", level_text(x$alpha))
+}
+
+print.welungad_study <- function(x, digits = 6, ...) {
+  cat(format(x), "\n", sep = "")
+  cat("Looks: ", x$records, " before this call, ", x$taken, " now\n", sep = "")
+  table <- x$rejections
+  if (nrow(table)) {
+    cat("Rejected by the looks of this call:\n")
+    write_table(cbind(look = table$look, hypothesis = table$hypothesis, stage = table$stage, weight = shown(double_of(table$weight), digits)))
+  }
+  for (i in seq_len(nrow(x$refused))) {
+    cat("Not taken: row ", x$refused$row[i], ", ", x$refused$hypothesis[i], " at stage ", x$refused$stage[i], ": ", x$refused$why[i], "\n", sep = "")
+  }
+  print_rejected(x)
+  invisible(x)
+}

@@ -1,0 +1,67 @@
+# Texts of numbers. Each number that the package writes is written here, so that R's options (scipen, OutDec, digits) change none.
+
+# Whole numbers.
+whole_text <- function(x) sprintf("%.0f", x)
+
+# Doubles with at most so many digits, for display.
+decimal_text <- function(x, digits) sprintf("%.*g", as.integer(digits), x)
+
+# Fractions of doubles; a whole one has no denominator.
+quotient_of <- function(n, d) {
+  n[which(n == 0)] <- 0
+  texts <- sprintf("%.0f/%.0f", n, d)
+  whole <- which(d == 1)
+  texts[whole] <- sprintf("%.0f", n[whole])
+  texts
+}
+
+# The place of an element, for messages: the name that it has, else its number.
+place_text <- function(i, names = NULL) {
+  if (length(names) >= i && !is.na(names[i]) && nzchar(names[i])) return(quoted(names[i]))
+  ordinals <- c("first", "second", "third", "fourth", "fifth", "sixth", "seventh", "eighth", "ninth", "tenth")
+  paste("the", if (i <= 10) ordinals[i] else paste0("element ", i))
+}
+
+quoted <- function(text) encodeString(text, quote = "\"")
+
+# A few of many texts, for messages.
+listed <- function(texts, most = 10L) {
+  more <- length(texts) - most
+  if (more > 0) texts <- c(texts[seq_len(most)], paste("and", more, "more"))
+  paste(texts, collapse = ", ")
+}
+
+# Texts cut for display.
+shortened <- function(text) ifelse(is.na(text) | nchar(text) <= 60, text, paste0(substr(text, 1, 40), ".."))
+
+# Stops with an error that names the argument.
+stop_at <- function(what, ...) stop(what, ": ", ..., call. = FALSE)
+
+# The whole numbers that an argument has, as integers: numbers without a fraction, or texts of digits.
+whole_numbers <- function(x, what, names = NULL) {
+  wrong <- which(!is_whole(x))
+  if (length(wrong)) {
+    given <- if (is_number(x)) decimal_text(x[wrong[1]], 15) else quoted(as.character(x[wrong[1]]))
+    stop_at(what, place_text(wrong[1], names), " is ", given, if (is.factor(x)) " of a factor", ", which is not a whole number")
+  }
+  as.integer(x)
+}
+
+is_whole <- function(x) {
+  if (is.character(x)) return(grepl("^[0-9]{1,9}\\z", x, perl = TRUE))
+  if (!is_number(x)) return(rep(FALSE, length(x)))
+  is.finite(x) & x == round(x) & abs(x) < 1e9
+}
+
+# Whether an object is a vector of plain numbers: no factor, date, or integer64 of the package bit64.
+is_number <- function(x) is.numeric(x) && !inherits(x, "integer64")
+
+# Writes a matrix of texts in columns, the first flush left and the others flush right.
+write_table <- function(texts) {
+  all <- rbind(colnames(texts), unname(texts))
+  all[is.na(all)] <- ""
+  columns <- lapply(seq_len(ncol(all)), function(j) {
+    formatC(all[, j], width = max(nchar(all[, j])), flag = if (j == 1) "-" else "")
+  })
+  cat(sub(" +$", "", paste0("  ", do.call(paste, c(columns, sep = "  ")))), sep = "\n")
+}

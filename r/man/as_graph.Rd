@@ -1,0 +1,32 @@
+\name{as_graph}
+\alias{as_graph}
+\title{Graphs of other packages}
+\description{
+Makes a graph of this package from a graph of graphicalMCP or gMCP. Neither package has to be installed, since only the fields of
+the object are read.
+}
+\usage{
+as_graph(x)
+}
+\arguments{
+  \item{x}{an object of class \code{initial_graph} (graphicalMCP), or of class \code{graphMCP} or \code{entangledMCP} (gMCP).}
+}
+\details{
+Weights and edges are read as \code{\link{as_exact}} says. Edges of gMCP that are texts with epsilon stay as they are. A graph
+whose weights or rows sum to more than 1, as R's doubles are read, is refused: see \code{total} of \code{\link{as_exact}}.
+}
+\value{
+A graph of class \code{welungad_graph}.
+}
+\seealso{
+\code{vignette("coming-from", package = "welungad")} has a table of calls.
+}
+\examples{
+\dontshow{if (welungad_found()) withAutoprint(\{ # examples need the program or its library}
+theirs <- structure(
+  list(hypotheses = c(H1 = 0.5, H2 = 0.5), transitions = rbind(H1 = c(H1 = 0, H2 = 1), H2 = c(1, 0))),
+  class = "initial_graph"
+)
+as_graph(theirs)
+\dontshow{\})}
+}

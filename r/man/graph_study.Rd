@@ -1,0 +1,43 @@
+\name{graph_study}
+\alias{graph_study}
+\title{Staged trials whose looks are kept in a file}
+\description{
+Takes looks one after the other, in one session or in many, and keeps them in a file. The case is kept beside the file, and
+another case is refused.
+}
+\usage{
+graph_study(case, store, looks = NULL)
+}
+\arguments{
+  \item{case}{a result of \code{\link{graph_stages}} without looks, or the lines of a staged case.}
+  \item{store}{the name of the file of the looks. It is made if it is missing.}
+  \item{looks}{new looks, as for \code{\link{graph_stages}}: a data frame with the columns \code{hypothesis}, \code{stage} and \code{p}.}
+}
+\details{
+The file has positions of hypotheses, and neither names nor levels. So the first call writes the canonical text of the case into
+the file \code{STORE.case}, and a later call with another text is an error. A file of looks that has no such file beside it is
+refused.
+
+A look is kept once all rejections that it allows are made. A look that is known, whose stage does not exist, or whose p-value is
+not from 0 to 1 is not taken, and changes nothing.
+
+A study needs the program: its C library opens no files.
+}
+\value{
+An object of class \code{welungad_study} with the parts \code{records} (how many looks were kept before this call), \code{taken} (how
+many are now), \code{looks}, \code{rejections} and \code{refused} (those of this call), and \code{rejected} (by all looks).
+}
+\seealso{
+\code{\link{graph_stages}} decides all looks at once, without a file.
+}
+\examples{
+\dontshow{if ("program" \%in\% welungad_ways()) withAutoprint(\{ # the example needs the program}
+graph <- graph_create(c(PFS = 1 / 2, OS = 1 / 2), rbind(0:1, 1:0))
+case <- graph_stages(graph, list(PFS = c(0.005, 0.02), OS = c(0.005, 0.02)))
+store <- tempfile(fileext = ".db")
+graph_study(case, store)
+graph_study(case, store, data.frame(hypothesis = "PFS", stage = 1, p = 0.002))
+graph_study(case, store, data.frame(hypothesis = "OS", stage = 1, p = 0.004))
+unlink(paste0(store, c("", "-wal", "-shm", ".case")))
+\dontshow{\})}
+}

@@ -1,0 +1,42 @@
+\name{graph_test_many}
+\alias{graph_test_many}
+\title{Many trials with one graph}
+\description{
+Decides many trials with one graph and one level, for example to estimate power.
+}
+\usage{
+graph_test_many(graph, P, alpha = 0.025)
+}
+\arguments{
+  \item{graph}{a graph, as \code{\link{graph_create}}, \code{\link{graph_entangle}}, \code{\link{graph_catalogue}} or \code{\link{graph_read}} makes it.}
+  \item{P}{a matrix or a data frame with a row of p-values for each trial. Columns with names are put in the order of the hypotheses.}
+  \item{alpha}{the level: above 0, at most 1, a fraction of whole numbers up to 10,000, so a decimal has at most four digits after the point.}
+}
+\details{
+P-values are read as \code{\link{as_exact}} says. All are read before the first trial is decided. A p-value that is missing or not
+from 0 to 1 is an error with its row and column.
+
+The call can be interrupted. If it takes more than two seconds in an interactive session, it shows a bar.
+
+Power is not computed here, and p-values are not simulated: the example simulates correlated normal statistics, and estimates
+the power of each hypothesis and of rejecting at least one.
+}
+\value{
+A logical matrix with a row for each trial and a column for each hypothesis, named by its label: whether it is rejected. A trial
+whose numbers become too wide is a row of \code{NA}, with a warning of class \code{welungad_wide} that names the rows.
+}
+\seealso{
+\code{\link{graph_test}} for one trial.
+}
+\examples{
+\dontshow{if (welungad_found()) withAutoprint(\{ # examples need the program or its library}
+graph <- graph_create(c(low = 1 / 2, high = 1 / 2), rbind(0:1, 1:0))
+set.seed(1)
+trials <- 100
+control <- rnorm(trials)
+statistics <- cbind(low = 2, high = 3) [rep(1, trials), ] + (matrix(rnorm(2 * trials), trials) + control) / sqrt(2)
+rejected <- graph_test_many(graph, pnorm(statistics, lower.tail = FALSE), alpha = 0.025)
+colMeans(rejected)
+mean(rowSums(rejected) > 0)
+\dontshow{\})}
+}

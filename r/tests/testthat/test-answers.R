@@ -1,0 +1,86 @@
+test_that("only the whole answer to the command is taken", {
+  each_way(function(way) {
+    graph <- pair()
+    p <- c(0.001, 0.9)
+    report <- graph_test(graph, p)$report
+    fault <- "gives no whole answer of Welungad to test"
+    taken <- function(lines, ...) with_program(stand_in(lines, ...), graph_test(graph, p))
+    expect_equal(taken(report)$rejected, c(H1 = TRUE, H2 = FALSE))
+    for (program in c("/bin/true", "/bin/cat")) with_program(program, expect_error(graph_test(graph, p), fault))
+    expect_error(taken(report[report != "end"]), fault)
+    expect_error(taken(report, end = ""), fault)
+    expect_error(taken(report[-2]), fault)
+    expect_error(taken(report[-1]), fault)
+    expect_error(taken(sub("H2", "H3", report)), fault)
+    expect_error(taken(sub("^rejected H1$", "rejected", report)), fault)
+    expect_error(taken(sub("^kept H2", "step 2 H2", report)), fault)
+    expect_error(taken(graph_test(holm(3), rep(0.9, 3))$report), fault)
+    expect_error(taken(character()), fault)
+    expect_error(taken(report, status = 1), fault)
+    expect_error(taken(report, status = 3), fault)
+    expect_error(taken("usage: word 1", status = 4), fault)
+    expect_equal(refusal_of(taken("usage: word 1", status = 2))$line, "usage: word 1")
+  })
+})
+
+test_that("so it is for each command", {
+  each_way(function(way) {
+    graph <- pair()
+    p <- c(0.001, 0.9)
+    levels <- list(H1 = 0.01, H2 = 0.01)
+    looks <- data.frame(hypothesis = c("H1", "H2"), stage = 1, p = c(0.001, 0.5))
+    evidence <- graph_evidence(graph, p)
+    case <- charToRaw(paste0(evidence$case, "\n", collapse = ""))
+    lines_of <- function(words, case) strsplit(welungad_run(words, case, paste0(evidence$evidence, "\n", collapse = ""))$text, "\n")[[1]]
+    calls <- list(
+      evidence = function() graph_evidence(graph, p),
+      check = function() graph_check(graph, p, evidence = evidence),
+      bounds = function() graph_bounds(graph, p),
+      simes = function() graph_simes(graph, p),
+      stages = function() graph_stages(graph, levels, looks)
+    )
+    for (command in names(calls)) {
+      words <- c(command, if (command == "check") "evidence")
+      lines <- lines_of(words, if (command == "stages") charToRaw(calls$stages()$case) else case)
+      handed <- welungad:::handed("", graph, version = 2L, looks = data.frame(name = c("H1", "H2"), stage = 1))
+      read <- function(lines) welungad:::read_answer(command, 0L, lines, handed)
+      expect_false(is.null(read(lines)), info = command)
+      for (k in seq_along(lines)) expect_null(suppressWarnings(read(lines[-k])), info = paste(command, k, "is missing"))
+      expect_null(read(gsub("H2", "H3", lines)), info = command)
+      with_program("/bin/true", expect_error(calls[[command]](), "gives no whole answer"))
+    }
+    canon <- graph_canon(graph, p)
+    read <- function(lines) welungad:::read_answer("canon", 0L, lines, welungad:::handed("", graph))
+    expect_false(is.null(read(canon)))
+    expect_null(read(sub("H2", "H3", canon)))
+    expect_null(read(canon[-1]))
+    expect_null(read(sub("^weights .*", "weights 1", canon)))
+    first <- sub("^evidence 2", "evidence 1", evidence$evidence[!grepl("^(keep|exit)", evidence$evidence)])
+    expect_equal(graph_check(graph, p, evidence = first)$listed, "H1")
+    with_program("/bin/true", expect_error(pair(), "gives no whole answer of Welungad to canon"))
+    with_program("/bin/true", expect_error(graph_catalogue("holm", 3), "gives no whole answer of Welungad to catalogue"))
+  })
+})
+
+test_that("a program that a signal ends is not taken for its status", {
+  each_way(function(way) {
+    graph <- pair()
+    with_program(stand_in("keeper fault", -9), expect_error(graph_test(graph, c(0.1, 0.2)), "was ended by signal 9"))
+    with_program(stand_in("", 77), expect_error(graph_test(graph, c(0.1, 0.2)), "can't be run: it ends with 77"))
+  })
+})
+
+test_that("the file of the proof is the word that names it", {
+  expect_equal(welungad:::file_word(c("check", "x")), 2)
+  expect_equal(welungad:::file_word(c("check", "--form", "csv", "--alpha=0.05", "x")), 5)
+  expect_equal(welungad:::file_word(c("check", "--form", "x")), NA_integer_)
+  expect_equal(welungad:::file_word(c("test", "x")), NA_integer_)
+  each_way(function(way) {
+    proof <- graph_evidence(pair(), c(0.01, 0.02))
+    sheet <- welungad_run(c("canon", "--to", "csv"), proof$case)$text
+    answer <- welungad_run(c("check", "--form", "csv", "--alpha=0.025", "x"), sheet, proof$evidence)
+    expect_equal(answer$status, 0L)
+    expect_match(answer$text, "^yes\n")
+    expect_equal(welungad_run(c("check", "--form", "text"), proof$case, proof$evidence)$text, "usage: word 4\n")
+  })
+})

@@ -1,0 +1,151 @@
+test_that("labels are distinct", {
+  each_way(function(way) {
+    zeros <- matrix(0, 2, 2)
+    twice <- "the name \"low dose\" occurs twice"
+    expect_error(graph_create(c("low dose" = 1 / 2, "low dose" = 1 / 2), zeros), paste0("hypotheses: ", twice), fixed = TRUE)
+    expect_error(graph_create(c(1 / 2, 1 / 2), zeros, hyp_names = c("low dose", "low dose")), paste0("hyp_names: ", twice), fixed = TRUE)
+    expect_error(graph_create(c(1 / 2, 1 / 2), zeros, labels = c("low dose", "low dose")), paste0("labels: ", twice), fixed = TRUE)
+    rows <- matrix(0, 2, 2, dimnames = list(c("low dose", "low dose"), NULL))
+    expect_error(graph_create(c(1 / 2, 1 / 2), rows), paste0("transitions: ", twice), fixed = TRUE)
+    expect_error(graph_create(c(A = 1 / 2, B = 1 / 2), zeros, labels = c("B", "A")), "is the name of another hypothesis")
+    expect_error(graph_create(c(A = 1 / 2, 1 / 2), zeros), "hypotheses: the second has no name", fixed = TRUE)
+    expect_error(graph_create(c(1 / 2, 1 / 2), zeros, hyp_names = c("A", NA)), "hyp_names: the second has no name", fixed = TRUE)
+    made <- graph_create(c("a b" = 1 / 2, c = 1 / 2), zeros, labels = c("first", "a_b"))
+    expect_false("a_b" %in% made$names)
+  })
+})
+
+test_that("p-values with names are put in order, whatever their class", {
+  each_way(function(way) {
+    p <- c(H2 = 0.001, H1 = 0.9)
+    fractions <- gmp::as.bigq(c(1, 9), c(1000, 10))
+    names(fractions) <- c("H2", "H1")
+    forms <- list(
+      p,
+      as_exact(p),
+      c(H2 = "0.001", H1 = "0.9"),
+      fractions,
+      data.frame(H2 = 0.001, H1 = "0.9"),
+      data.frame(hypothesis = c("H2", "H1"), p = p),
+      data.frame(p = p),
+      matrix(p, 1, dimnames = list(NULL, c("H2", "H1"))),
+      matrix(p, 2, dimnames = list(c("H2", "H1"), "p")),
+      as.table(p)
+    )
+    for (form in forms) {
+      x <- graph_test(pair(), form)
+      expect_equal(x$rejected, c(H1 = FALSE, H2 = TRUE), info = class(form)[1])
+      expect_equal(x$exact$p, c("9/10", "1/1000"))
+    }
+    for (graph_call in list(graph_bounds, graph_simes, graph_test_closure, graph_evidence, graph_canon)) {
+      expect_match(paste(graph_call(pair(), as_exact(p))$case, collapse = "\n"), "p 9/10 1/1000", fixed = TRUE)
+      break
+    }
+    expect_equal(graph_canon(pair(), as_exact(p))[3], "p 9/10 1/1000")
+    expect_error(graph_test(pair(), c(H1 = 0.1, H1 = 0.2)), "p: the name \"H1\" occurs twice", fixed = TRUE)
+    expect_error(graph_test(pair(), c(H1 = 0.1, 0.2)), "p: the second has no name, and others have one", fixed = TRUE)
+    expect_error(graph_test(pair(), c(H1 = 0.1, H2 = 0.2, H3 = 0.3)), "p: no hypothesis has the name \"H3\"", fixed = TRUE)
+    expect_error(graph_test(pair(), c(H1 = 0.1)), "p: nothing is given for \"H2\"", fixed = TRUE)
+    expect_error(graph_test(pair(), matrix(0.1, 2, 2)), "p: a vector is needed, and not a table of 2 by 2")
+    expect_error(graph_test(pair(), data.frame(a = 1:2, b = 1:2)), "p: a data frame has one row")
+    expect_equal(refusal_of(graph_test(pair(), c(0.1, 0.2, 0.3)))$line, "malformed: case: p count 3")
+  })
+})
+
+test_that("weights and edges with names are put in order", {
+  each_way(function(way) {
+    edges <- matrix(c(0, 0, 0, "1/3", 0, 0, "2/3", 1, 0), 3, dimnames = list(c("A", "B", "C"), c("A", "B", "C")))
+    straight <- graph_create(c(A = 1, B = 0, C = 0), edges)
+    turned <- edges[c(3, 1, 2), c(2, 3, 1)]
+    frame <- data.frame(B = turned[, "B"], C = turned[, "C"], A = turned[, "A"], row.names = c("C", "A", "B"))
+    for (form in list(turned, frame, as_exact(turned))) {
+      expect_equal(graph_create(c(A = 1, B = 0, C = 0), form)$components, straight$components)
+    }
+    expect_equal(graph_create(c(B = 0, C = 0, A = 1), edges, hyp_names = c("A", "B", "C"))$components, straight$components)
+    expect_error(graph_create(c(B = 0, C = 0, D = 1), edges, hyp_names = c("A", "B", "C")), "hypotheses: no hypothesis has the name \"D\"", fixed = TRUE)
+    expect_error(graph_create(c(A = 1, B = 0, C = 0), unname(edges)[, 1:2]), "transitions: a square matrix is needed")
+    expect_equal(graph_create(c(1, 0, 0), matrix(0, 3, 3, dimnames = list(NULL, c("A", "B", "C"))))$labels, c("A", "B", "C"))
+    labelled <- graph_create(c(A = 1, B = 0, C = 0), edges, labels = c(C = "three", A = "one", B = "two"))
+    expect_equal(labelled$labels, c("one", "two", "three"))
+  })
+})
+
+test_that("shares are put in the order of the graphs", {
+  each_way(function(way) {
+    one <- graph_create(c(A = 1, B = 0), matrix(0, 2, 2))
+    two <- graph_create(c(A = 0, B = 1), matrix(0, 2, 2))
+    both <- graph_entangle(first = one, second = two, shares = c(second = 0.2, first = 0.7))
+    expect_equal(vapply(both$components, `[[`, "", "share"), c("7/10", "1/5"))
+    expect_error(graph_entangle(one, two, shares = c(second = 0.2, first = 0.7)), "shares: the shares have names, and the graphs have none")
+    expect_error(graph_entangle(one, two, shares = 1), "shares: one share is needed for each graph")
+  })
+})
+
+test_that("names decide the direction of a table of levels", {
+  each_way(function(way) {
+    by_columns <- cbind(H1 = c(0.005, 0.004), H2 = c(0.003, 0.002))
+    x <- graph_stages(pair(), by_columns, at = 1 / 2)
+    expect_match(x$case, "spend H1 2/5 8/25\nspend H2 6/25 4/25\n", fixed = TRUE)
+    expect_equal(graph_stages(pair(), t(by_columns)[2:1, ], at = 1 / 2)$case, x$case)
+    expect_equal(graph_stages(pair(), as.data.frame(by_columns), at = 1 / 2)$case, x$case)
+    expect_equal(graph_stages(pair(), list(H2 = c(0.003, 0.002), H1 = as_exact(c(0.005, 0.004))), at = c(H2 = 0.5, H1 = 0.5))$case, x$case)
+    expect_error(graph_stages(pair(), unname(by_columns)), "levels: neither rows nor columns of the table name the hypotheses")
+    square <- matrix(0.001, 2, 2, dimnames = list(c("H1", "H2"), c("H1", "H2")))
+    expect_error(graph_stages(pair(), square), "levels: both rows and columns of the table name the hypotheses")
+    expect_error(graph_stages(pair(), list(H1 = 0.001, H3 = 0.002)), "levels: no hypothesis has the name \"H3\"", fixed = TRUE)
+    expect_error(graph_stages(pair(), list(H1 = 0.001, H2 = c(0.001, 0.002))), "levels: \"H2\" has 2 stages, and \"H1\" 1", fixed = TRUE)
+  })
+})
+
+test_that("the stages of looks are whole numbers", {
+  each_way(function(way) {
+    levels <- list(H1 = c(0.001, 0.002, 0.003), H2 = c(0.001, 0.002, 0.003))
+    looks <- function(stage) data.frame(hypothesis = c("H1", "H2"), stage = stage, p = c(0.5, 0.6))
+    for (stage in list(c(2, 3), c(2L, 3L), c("2", "3"))) expect_equal(graph_stages(pair(), levels, looks(stage))$looks$stage, 2:3)
+    expect_error(graph_stages(pair(), levels, looks(factor(c("2", "3")))), "looks: stage: the first is \"2\" of a factor, which is not a whole number", fixed = TRUE)
+    expect_error(graph_stages(pair(), levels, looks(c(1, 1.9))), "looks: stage: the second is 1.9, which is not a whole number", fixed = TRUE)
+    expect_error(graph_stages(pair(), levels, looks(c(1, NA))), "looks: stage: the second is NA")
+    expect_error(graph_stages(pair(), levels, data.frame(hypothesis = 1:2, stage = 1, p = 0.1)), "looks: the column hypothesis has numbers")
+    expect_error(graph_stages(pair(), levels, data.frame(hypothesis = "H3", stage = 1, p = 0.1)), "looks: no hypothesis has the name \"H3\"", fixed = TRUE)
+    expect_equal(refusal_of(graph_stages(pair(), levels, looks(c(4, 4))))$line, "malformed: case: arrival 1 stage")
+  })
+})
+
+test_that("logical vectors with names are put in order", {
+  each_way(function(way) {
+    expect_equal(graph_update(pair(), c(H2 = TRUE, H1 = FALSE))$deleted, "H2")
+    expect_error(graph_update(pair(), TRUE), "delete: 1 given for 2 hypotheses")
+  })
+})
+
+test_that("results have the labels of the user", {
+  each_way(function(way) {
+    graph <- graph_create(c("dose \u00fc" = 1 / 2, "dose b" = 1 / 2), rbind(0:1, 1:0))
+    labels <- c("dose \u00fc", "dose b")
+    x <- graph_test(graph, c(0.001, 0.9))
+    expect_true(x$rejected[["dose \u00fc"]])
+    expect_equal(names(x$adjusted), labels)
+    expect_equal(names(x$reached), labels)
+    expect_equal(x$order, labels[1])
+    expect_equal(x$exact$hypothesis, labels)
+    expect_equal(graph_steps(x)$deleted, labels[1])
+    expect_equal(names(graph$components[[1]]$weights), labels)
+    expect_equal(rownames(graph$components[[1]]$edges), labels)
+    expect_equal(names(graph_test_closure(graph, c(0.001, 0.9))$rejected), labels)
+    expect_equal(names(graph_simes(graph, c(0.001, 0.9))$rejected), labels)
+    check <- graph_check(graph, c(0.001, 0.9), evidence = graph_evidence(graph, c(0.001, 0.9)))
+    expect_equal(c(check$listed, check$kept), labels)
+    staged <- graph_stages(graph, stats::setNames(list(0.01, 0.01), labels), data.frame(hypothesis = labels[1], stage = 1, p = 0.001))
+    expect_equal(names(staged$rejected), labels)
+    expect_equal(staged$rejections$hypothesis, labels[1])
+  })
+})
+
+test_that("a graph that was changed is decided as it is", {
+  each_way(function(way) {
+    graph <- pair()
+    graph$components[[1]]$weights[] <- c("1", "0")
+    expect_equal(graph_test(graph, c(0.02, 0.9))$exact$weight, c("1", "1"))
+    expect_match(graph_canon(graph)[3], "weights 1 0")
+  })
+})

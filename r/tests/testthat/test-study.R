@@ -1,0 +1,57 @@
+staged <- function(names = c("PFS", "OS"), alpha = 0.025) {
+  graph_stages(pair(names), stats::setNames(list(c(0.005, 0.02), c(0.005, 0.02)), names), alpha = alpha)
+}
+
+look <- function(hypothesis, stage, p) data.frame(hypothesis = hypothesis, stage = stage, p = p)
+
+# Runs code in each way, with a folder for files, if there is a program.
+with_folder <- function(code) {
+  testthat::skip_if_not("program" %in% welungad:::welungad_ways(), "the program is not found")
+  folder <- tempfile("study-")
+  dir.create(folder)
+  on.exit(unlink(folder, recursive = TRUE))
+  each_way(function(way) code(file.path(folder, paste0(way, ".db"))))
+}
+
+test_that("a study keeps its looks, and the case beside them", {
+  with_folder(function(store) {
+    first <- graph_study(staged(), store)
+    expect_equal(c(first$records, first$taken), c(0L, 0L))
+    expect_equal(readLines(paste0(store, ".case"))[2], "hypotheses PFS OS")
+    second <- graph_study(staged(), store, look("PFS", 1, 0.002))
+    expect_equal(second$rejected, c(PFS = TRUE, OS = FALSE))
+    expect_equal(second$rejections$weight, "1/2")
+    third <- graph_study(staged(), store, rbind(look("PFS", 1, 0.5), look("OS", 1, 0.004)))
+    expect_equal(c(third$records, third$taken), 1:2)
+    expect_equal(third$refused$why, "known")
+    expect_equal(third$refused$hypothesis, "PFS")
+    expect_true(all(third$rejected))
+    expect_output(print(third), "Not taken: row 1, PFS at stage 1: known")
+    again <- graph_study(readLines(paste0(store, ".case")), store)
+    expect_true(all(again$rejected))
+  })
+})
+
+test_that("the looks of another case are not read", {
+  with_folder(function(store) {
+    graph_study(staged(), store, look("PFS", 1, 0.002))
+    expect_error(graph_study(staged(c("OS", "PFS")), store), "was made for a case with hypotheses PFS OS")
+    expect_error(graph_study(staged(alpha = 0.05), store), "was made for a case with the line \"alpha 1/40\", and not \"alpha 1/20\"", fixed = TRUE)
+    unlink(paste0(store, ".case"))
+    expect_error(graph_study(staged(), store), "so it is not known for which case it was made")
+    expect_false(file.exists(paste0(store, ".case")))
+  })
+})
+
+test_that("a study needs a file, and a staged case without looks", {
+  with_folder(function(store) {
+    for (wrong in list(":memory:", "file:x", "", NA, 1, c("a", "b"))) expect_error(graph_study(staged(), wrong), "store: the name of a file is needed")
+    expect_error(graph_study(staged(), file.path(store, "x.db")), "store: there is no folder")
+    expect_error(graph_study(graph_canon(pair()), store), "case: a study has a staged case")
+    late <- graph_stages(pair(), list(H1 = 0.01, H2 = 0.01), look("H1", 1, 0.5))
+    expect_error(graph_study(late, store), "case: a study begins without looks")
+    expect_error(graph_study(1, store), "case: a result of graph_stages")
+    expect_false(file.exists(paste0(store, ".case")))
+    expect_error(plot(graph_study(staged(), store)), "a study has no picture")
+  })
+})

@@ -1,0 +1,89 @@
+test_that("data frames are read column by column", {
+  each_way(function(way) {
+    edges <- data.frame(A = c("0", "1", "0"), B = c(1 / 3, 0, 0), C = c(2 / 3, 0, 0))
+    expect_equal(unname(graph_create(c(A = 1, B = 0, C = 0), edges)$components[[1]]$edges[1, ]), c("0", "1/3", "2/3"))
+    expect_error(graph_create(c(1, 0), data.frame(a = factor(0:1), b = 0)), "transitions: column \"a\": numbers are doubles", fixed = TRUE)
+    expect_error(graph_create(c(1, 0), data.frame(V1 = 0:1, V2 = 0)), NA)
+    expect_error(graph_create(c(A = 1, B = 0), data.frame(V1 = 0:1, V2 = 0)), "transitions: columns: no hypothesis has the name \"V1\"", fixed = TRUE)
+  })
+})
+
+test_that("texts that R made of fractions are named", {
+  expect_warning(as_exact(format(1 / 3)), "x: \"0.3333333\" is what R writes for 1/3", fixed = TRUE, class = "welungad_written")
+  m <- matrix("0", 2, 2)
+  m[1, 2] <- 1 / 3
+  expect_warning(as_exact(m), "\"0.333333333333333\" is what R writes for 1/3", fixed = TRUE)
+  expect_warning(as_exact(paste(0.05 / 7)), "\"0.00714285714285714\" is what R writes for 1/140", fixed = TRUE)
+  expect_warning(as_exact(as.character(9973 / 9999)), "9973/9999", fixed = TRUE)
+  expect_no_warning(as_exact(c("0.3333", "0.1234567", "0.5000000", "0.123456789012345", "1/3", "0.025", "1e-300", "1-\\epsilon", NA)))
+  each_way(function(way) {
+    expect_warning(graph_test(pair(), c("0.3333333", "0.5")), "^p: ")
+    expect_warning(graph_create(c("0.3333333", "0.5"), matrix(0, 2, 2)), "^hypotheses: ")
+  })
+})
+
+test_that("each element is one numeral", {
+  each_way(function(way) {
+    expect_error(graph_test(pair(), c("0.01 0.9", "")), "p: the first is \"0.01 0.9\", which is not one number", fixed = TRUE)
+    expect_error(graph_test(pair(), c("0.01", "")), "p: the second is \"\", which is not one number", fixed = TRUE)
+    expect_error(graph_test(pair(), c(H2 = "0.01\n0.9", H1 = "1")), "p: \"H2\" is", fixed = TRUE)
+    expect_error(graph_create(c("1 0", ""), matrix(0, 2, 2)), "hypotheses: the first is \"1 0\"", fixed = TRUE)
+    expect_error(graph_create(c(1, 0), matrix(c("0", "0", "1/2\nedge H2 H1 1", "0"), 2)), "transitions: the edge at 1, 2 is", fixed = TRUE)
+    expect_error(graph_test(pair(), c(0.1, 0.2), "0.05 0.1"), "alpha: the first is \"0.05 0.1\"", fixed = TRUE)
+    expect_error(graph_test(pair(), c(0.1, 0.2), c(0.05, 0.1)), "alpha: one level is needed")
+  })
+})
+
+test_that("no option of R changes what is handed in or printed", {
+  each_way(function(way) {
+    plain <- list(graph = capture.output(print(holm(3))), canon = graph_canon(holm(3), c(1e-5, 0.1 + 0.2, 1)))
+    odd <- list(scipen = -20, OutDec = ",", digits = 3)
+    with_options(odd, {
+      expect_equal(graph_catalogue("holm", 10)$labels, paste0("H", 1:10))
+      expect_equal(capture.output(print(holm(3))), plain$graph)
+      expect_equal(graph_canon(holm(3), c(1e-5, 0.1 + 0.2, 1)), plain$canon)
+      x <- graph_test(diabetes(), c(0.018, 0.01, 0.105, 0.006))
+      for (it in list(x, graph_steps(x), graph_test_closure(diabetes(), c(0.018, 0.01, 0.105, 0.006)))) expect_output(print(it))
+      expect_output(print(as_exact(c(0.1 + 0.2, 1 / 3))), "0.3333333", fixed = TRUE)
+      levels <- list(H1 = 0.01, H2 = 0.01)
+      staged <- graph_stages(pair(), levels, data.frame(hypothesis = "H1", stage = 1, p = 0.001))
+      expect_output(print(staged), "levels 0.01 at weight 1", fixed = TRUE)
+    })
+  })
+})
+
+test_that("sums of doubles say what was read, and how to read the fractions", {
+  each_way(function(way) {
+    refusal <- refusal_of(graph_create(seq(0.1, 0.4, 0.1), matrix(0, 4, 4)))
+    expect_match(refusal$amount, "0.30000000000000004 is one unit in the last place above 3/10", fixed = TRUE)
+    expect_match(refusal$amount, "as_exact(hypotheses, total = 1) reads them as the fractions that sum to 1", fixed = TRUE)
+    expect_equal(unname(graph_create(as_exact(seq(0.1, 0.4, 0.1), total = 1), matrix(0, 4, 4))$components[[1]]$weights), c("1/10", "1/5", "3/10", "2/5"))
+    counts <- rbind(c(0, 1, 2, 3), c(1, 0, 5, 1), c(1, 1, 0, 4), 0)
+    edges <- as_exact(counts / pmax(rowSums(counts), 1), total = 1)
+    graph <- graph_create(rep(1 / 4, 4), edges)
+    expect_equal(unname(graph$components[[1]]$edges[2, ]), c("1/7", "0", "5/7", "1/7"))
+    row <- refusal_of(graph_create(c(1, 0, 0), rbind(c(0, 0.1 + 0.2, 0.7), 0, 0)))
+    expect_match(row$amount, "as_exact(transitions, total = 1)", fixed = TRUE)
+  })
+  expect_error(as_exact(c(0.1, 0.2), total = 1), "x: the row reads as 3/10, and not as 1", fixed = TRUE)
+  expect_error(as_exact(c(0.1, NA), total = 1), "none missing")
+  expect_error(as_exact(0.1, total = c(1, 2)), "total: one number is needed")
+  expect_equal(as_exact(c("1/3", "2/3"), total = 1)$read, c("1/3", "2/3"))
+  expect_equal(as_exact(c(0.1, 0.2, 0.7), total = "1")$read, c("1/10", "1/5", "7/10"))
+})
+
+test_that("a p-value beside a fraction that decides a tie is named", {
+  each_way(function(way) {
+    graph <- graph_create(rep("1/7", 7), matrix(0, 7, 7))
+    above <- 1 / 140 + 2^-60
+    expect_gt(above, 1 / 140)
+    x <- graph_test(graph, c(above, rep(1, 6)), 0.05)
+    expect_false(x$rejected[[1]])
+    note <- "The p-value [0-9.]+ of H1 is one unit in the last place above 1/140; its level is 1/140"
+    printed <- function(...) gsub("\\s+", " ", paste(capture.output(print(x, ...)), collapse = " "))
+    expect_match(printed(), note)
+    expect_match(printed(exact = TRUE), note)
+    expect_false(any(grepl("last place", capture.output(print(graph_test(graph, c(1 / 140, rep(1, 6)), 0.05))))))
+    expect_false(any(grepl("last place", capture.output(print(graph_test(graph, c(0.1 + 0.2, rep(1, 6)), 0.05))))))
+  })
+})
