@@ -23,7 +23,7 @@ from fractions import Fraction
 from html import escape
 
 import draw
-from findings import MOST_PICTURES, Findings, Refused
+from findings import MOST_PICTURES, Findings, Refused, words_of
 from refusals import explained
 from reports import NotAReport
 
@@ -406,11 +406,11 @@ def decision_page(findings, file, words, program):
 def document(case_text, run, form="text", alpha=None, file="trial.txt", labels=None, program=()):
     """The status of the program, and the page about its decision or its refusal. See `page`."""
     given = case_text if isinstance(case_text, str) else case_text.decode("utf-8", "surrogateescape")
-    words = [*(["--form", form] if form != "text" else []), *(["--alpha", alpha] if alpha is not None else [])]
+    words = words_of(form, alpha)
     try:
-        return 0, decision_page(Findings(given, run, words, labels), file, words, program)
+        return 0, decision_page(Findings(given, run, form, alpha, labels), file, words, program)
     except Refused as refused:
-        return refused.args[1], refusal_page(refused, given, file, words if refused.args[0] == "canon" else [], program)
+        return refused.args[1], refusal_page(refused, given, file, words, program)
 
 
 def page(case_text, run, **how):
