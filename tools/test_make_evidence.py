@@ -191,7 +191,7 @@ class Cases(unittest.TestCase):
             ("alpha 0.025", "alpha 2", "the level"),
             ("p 0.01 0.03 0.001", "p 0.01 0.03", "a p-value each"),
             ("p 0.01 0.03 0.001", "p 0.01 0.03 2", "p-value"),
-            ("hypotheses H1 H2 H3", "hypotheses H1 H2 H3 H3", "different names"),
+            ("hypotheses H1 H2 H3", "hypotheses H1 H2 H2", "different names"),
             ("weights 1 0 0", "weights 1 0", "one weight for each"),
             ("weights 1 0 0", "weights 1 0 1/9", "a sum above 1"),
             ("weights 1 0 0", "weights 1 0 -1", "below 0"),
