@@ -213,7 +213,8 @@ def edge_label(above, below):
     """Returns a quotient as draw.py takes it. One that is long is given by its first term."""
     if len(below) == 1:
         return [Fraction(x, below[0]) for x in above]
-    text = f"({draw.edge_text([Fraction(x) for x in above])})/({draw.edge_text([Fraction(x) for x in below])})"
+    parts = [draw.edge_text([Fraction(x) for x in part]) for part in (above, below)]
+    text = "/".join(f"({part})" if re.search("[+−/·]", part[1:]) else part for part in parts)
     if len(text) <= 15:
         return text
     first, second = (next(i for i, x in enumerate(part) if x) for part in (above, below))
