@@ -48,7 +48,7 @@ th, td { border: solid #999; border-width: 0 1px 1px 0; padding: .25rem .5rem; t
 thead th { border-top-width: 1px; }
 tr > :first-child { border-left-width: 1px; }
 thead th { background: #eef1f4; vertical-align: bottom; }
-tbody th { background: #fff; position: sticky; left: 0; }
+tbody th { background: #fff; background-clip: padding-box; position: sticky; left: 0; }
 tr.rejected > th { background: #cfe3cf; }
 .decimal { color: #444; white-space: nowrap; }
 .whole { white-space: nowrap; }
@@ -58,6 +58,7 @@ code { overflow-wrap: anywhere; }
 .pictures { display: grid; grid-template-columns: repeat(auto-fit, minmax(min(100%, 24rem), 1fr)); gap: 1rem; padding: 0;
   list-style: none; }
 .pictures.large { grid-template-columns: 1fr; }
+.pictures li { max-width: none; }
 figure { margin: 0; border: 1px solid #ccc; padding: .5rem; }
 figure svg { max-width: 100%; height: auto; display: block; margin: 0 auto; }
 figcaption { font-weight: bold; }

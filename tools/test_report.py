@@ -223,6 +223,22 @@ class Pages(unittest.TestCase):
                 with self.subTest(command=command, text=text), self.assertRaises(reports.NotAReport):
                     report.page(CASE, run)
 
+    def test_another_case(self):
+        """Whether there is no page if the canonical text is that of another case than the user gave, or not canonical."""
+        for old, new in [("0.026", "0.027"), ("alpha 0.05", "alpha 0.06"), ("H2", "H3"), ("weights 1/2", "weights 1/3"), ("1/2\n", "1/2\nedge H1 H2 1\n")]:
+            with self.subTest(new), self.assertRaises(reports.NotAReport):
+                report.page(CASE.replace(old, new), answering(canon=(0, CANON)))
+        with self.assertRaises(reports.NotAReport):
+            report.page(CASE, lambda words, case: (0, START) if (words[0], case) == ("canon", CANON) else answering()(words, case))
+
+    def test_weights_disagree(self):
+        """Whether there is no picture if the program's weights are not those of the graph that is drawn."""
+        held = findings.Findings(CASE, answering())
+        self.assertEqual(held.states[0].weights, {"H1": Fraction(1, 2), "H2": Fraction(1, 2)})
+        held.run = answering(test=(0, START.replace("kept H2 p 1 weight 1/2", "kept H2 p 1 weight 1/3")))
+        with self.assertRaises(reports.NotAReport):
+            [*held.all_states()]
+
     def test_graphs_disagree(self):
         """Whether there is no page if the program's weights after a rejection are not those of the graph."""
         def run(words, case):
@@ -233,11 +249,11 @@ class Pages(unittest.TestCase):
 
     def test_refusals(self):
         """Whether a refused case has a page with the cause and the cure, and marks the line."""
-        bad = CASE.replace("0.025", "2.5%")
+        bad = CASE.replace("0.025", "2.5% <b>")
         status, text = report.document(bad, answering(canon=(3, "malformed: line 4: number\n")), file="a b.txt")
         page = self.check_form(text)
         self.assertEqual(status, 3)
-        self.assertEqual([it.text() for it in page.all("mark")], ["p 2.5% 0.026"])
+        self.assertEqual([it.text() for it in page.all("mark")], ["p 2.5% <b> 0.026"])
         self.assertEqual([it.text() for it in page.all("dd")], [
             "malformed: line 4: number (status 3 of canon)", "A word is not a numeral.",
             "Write 0.025, 1/40 or 2.5e-2; no percent sign, no decimal comma.",

@@ -326,6 +326,7 @@ class Checker(unittest.TestCase):
             ('["A"]', '["A\n"]', "json: syntax"),
             ('["A"]', "[1]", "/hypotheses/0: shape"),
             ("{", "\ufeff{", "json: syntax"),
+            ("{", '{"stages":{"count":1,"spend":[[1]],"arrivals":[]},', "kind"),
         ]:
             with self.subTest(new):
                 self.assertEqual(answer(case.replace(old, new, 1), proof, "json"), (3, f"malformed: {wanted}\n"))
