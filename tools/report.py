@@ -28,7 +28,7 @@ from refusals import explained
 from reports import NotAReport
 
 HERE = os.path.dirname(os.path.abspath(__file__))
-LARGE = 6  # a graph of more hypotheses has the whole width of the page
+LARGE = 620  # a wider picture has the whole width of the page
 P_VALUE = '<span class="whole">p-value</span>'
 
 STYLE = """
@@ -138,6 +138,8 @@ def answer(findings):
     kept = [name for name in findings.names if name not in findings.steps]
     said = f"{labels_of(findings, findings.decision.rejected)}" if findings.order else "no hypothesis"
     words = [f"At the level {number(findings.alpha)}, the test rejects <strong>{said}</strong>."]
+    if findings.is_staged and not findings.decision.looks:
+        words.append("No p-value has arrived.")
     if kept and findings.order:
         words.append(f"It does not reject {labels_of(findings, kept)}.")
     return f'<p class="answer">{" ".join(words)}</p>'
@@ -251,15 +253,16 @@ def described(findings, state):
 def pictures(findings):
     """The graph before the first rejection and after each."""
     centre = draw.centres(findings.case, draw.edges_of(findings.case))
-    items = []
+    items, widest = [], 0
     for n, state in enumerate(findings.states):
         after = f"After step {n}: {findings.labels[findings.order[n - 1]]} is rejected" if n else "Before the first rejection"
-        title = after + (", the end" if n == len(findings.order) else "")
+        title = after + (", the end" if n == len(findings.order) else "") if findings.order else "The graph: no hypothesis is rejected"
         if isinstance(state, Refused):
             items.append(f"<li><p>{escape(title)}: there is no picture, since the program prints no weights for it.</p>{refusal_list(state)}</li>")
             continue
         numbers = {findings.labels[name]: str(findings.steps[name]) for name in state.removed}
         drawn = draw.picture(state.case, numbers, centre, f"graph{n}-", title, described(findings, state))
+        widest = max(widest, int(re.search(r' width="(\d+)"', drawn)[1]))
         items.append(f"<li><figure>\n<figcaption>{escape(title)}</figcaption>\n{drawn}</figure></li>")
     words = "" if len(findings.names) <= MOST_PICTURES else f"<p>Graphs of more than {MOST_PICTURES} hypotheses are drawn once.</p>"
     return "\n".join([
@@ -267,7 +270,7 @@ def pictures(findings):
         "<p>A circle has the name of a hypothesis and its weight. An arrow has the part of the weight that it passes on if its hypothesis "
         "is rejected. The weights are those that the program prints; it prints no edges, so the edges after a rejection are computed "
         f"for the pictures, and the weights that they give were compared with the program's.</p>{words}",
-        f'<ol class="pictures{" large" if len(findings.names) > LARGE else ""}">', *items, "</ol>",
+        f'<ol class="pictures{" large" if widest > LARGE else ""}">', *items, "</ol>",
     ])
 
 
