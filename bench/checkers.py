@@ -1,11 +1,14 @@
 #!/usr/bin/env python3
 """Compares the program with tools/check_evidence.py and tools/closed_test.py on cases that it makes from a seed.
 
-    bench/checkers.py [--documents N] [--damaged N] [--closed N] [--seed S] [--jobs J] [--program PATH]
+    bench/checkers.py [--documents N] [--damaged N] [--closed N] [--own N] [--seed S] [--jobs J] [--program PATH]
 
 Documents: the program makes evidence for a case, and both check it; of each fourth document the keeps are cut off, which makes
 it one of version 1. Damaged: both check such a document after a change of it or of its case. Closed: both decide a case, and
-give the weights of all sets. A third of the cases have epsilon, some have several components, some are sheets.
+give the weights of all sets. A third of the cases have epsilon, some have several components, some are sheets or JSON.
+
+Own: tools/make_evidence.py makes evidence for a case on which the program makes some, with the program's report and without it.
+Both documents are checked by both, the second one also after a change.
 
 Agreement means the same status and the same text. Where the program refuses a case or a document as too wide or past a limit
 (status 4 or 5, or a number of more than 127 bits), the second checker decides; these runs are counted apart. Prints what came how
@@ -13,6 +16,7 @@ often and each disagreement, with the number of its case, and ends with status 1
 """
 import argparse
 import collections
+import json
 import multiprocessing
 import os
 import random
@@ -24,7 +28,8 @@ from fractions import Fraction
 
 HERE = os.path.dirname(os.path.abspath(__file__))
 sys.path.insert(0, os.path.join(HERE, "..", "tools"))
-from check_evidence import WIDEST, Stop, answer, numeral, read_case  # noqa: E402
+import make_evidence  # noqa: E402
+from check_evidence import WIDEST, Stop, answer, case_of  # noqa: E402
 from closed_test import closed_test  # noqa: E402
 
 PROGRAM = os.path.join(HERE, "..", "crates", "welungad", "out", "welungad")
@@ -78,10 +83,10 @@ class Made:
         count = rng.choice([1, 1, 2, 3])
         parts = shares(rng, count) if count > 1 or rng.random() < 0.2 else [Fraction(1)]
         self.components = [(share, shares(rng, self.size), edges_of(rng, self.size, number % 3 == 0)) for share in parts]
-        self.form = "csv" if parts == [1] and rng.random() < 0.2 else "text"
+        self.form = rng.choice(["csv", "csv", "json", *["text"] * 7] if parts == [1] else ["json", *["text"] * 7])
 
     def words(self):
-        return ["--form", "csv", "--alpha", self.alpha] if self.form == "csv" else []
+        return {"csv": ["--form", "csv", "--alpha", self.alpha], "json": ["--form", "json"], "text": []}[self.form]
 
     def sheet(self):
         _, weights, edges = self.components[0]
@@ -98,8 +103,16 @@ class Made:
             lines += [f"edge {self.names[i]} {self.names[j]} {edge}" for (i, j), edge in edges.items()]
         return "\n".join(lines) + "\n"
 
+    def json(self):
+        components = [
+            {"share": str(share), "weights": [*map(str, weights)],
+             "edges": [{"from": self.names[i], "to": self.names[j], "weight": edge} for (i, j), edge in edges.items()]}
+            for share, weights, edges in self.components
+        ]
+        return json.dumps({"p": [*map(str, self.p)], "alpha": self.alpha, "hypotheses": self.names, "components": components})
+
     def bytes(self):
-        return (self.sheet() if self.form == "csv" else self.text()).encode()
+        return {"csv": self.sheet, "json": self.json, "text": self.text}[self.form]().encode()
 
 
 # ---- damage
@@ -210,6 +223,27 @@ def check_one(task):
     return found
 
 
+def own_one(task):
+    """The comparisons on the documents that make_evidence.py makes for the case of a number."""
+    seed, number, room, _ = task
+    rng = random.Random(f"{seed}/own/{number}")
+    made = Made(rng, number, 7)
+    status, evidence = run(["evidence", *made.words()], made.bytes())
+    if status:
+        return [(f"no document: status {status}", None)]
+    report = run(["test", *made.words()], made.bytes())[1]
+    case = run(["canon", *made.words()], made.bytes())[1]
+    own = "\n".join([*make_evidence.evidence(make_evidence.Case(case)), ""])
+    found = [(f"own: {'the same text as' if own == evidence else 'another text than'} the program's", None)]
+    if own != "\n".join([*make_evidence.evidence(make_evidence.Case(case), report), ""]):
+        found.append(("own: DISAGREE", f"another document with the report\n{case}{report}"))
+    for text, what in ((evidence, "the program's document"), (own, "own document")):
+        said, disagreement = compare(made, text, room, what)
+        found.append((said, disagreement or (None if said.endswith("both say yes") else f"not yes\n{case}{text}")))
+    found.append(compare(made, damaged(rng, made, own), room, "own damaged"))
+    return found
+
+
 def decide_one(task):
     """The comparison of the decision on the case of a number, and of the weights of its sets."""
     seed, number, _, _ = task
@@ -219,7 +253,7 @@ def decide_one(task):
     all_status, weights = run(["weights", *made.words()], made.bytes())
     if status or all_status:
         return [(f"closed: the program ends with {status} and {all_status}", None)]
-    case = read_case(made.bytes().decode(), made.form, numeral(made.alpha, "alpha") if made.form == "csv" else None)
+    case = case_of(made.bytes(), made.form, made.alpha if made.form == "csv" else None)
     tested = list(closed_test(case))
     rejected = [name for k, name in enumerate(case.names) if all(by is not None for weights, by in tested if k in weights)]
     sets = [" ".join(["set", *(f"{case.names[k]}={w}" for k, w in row.items())]) for row, _ in tested]
@@ -237,18 +271,22 @@ def safely(task):
 
 
 def count(pool, tasks, counts):
-    """Counts what tasks find, and prints each disagreement with the number of its case."""
+    """Counts what tasks find, and prints each disagreement with the number of its case. Returns how many there are."""
+    wrong = 0
     for number, found in pool.imap(safely, tasks, chunksize=16):
         for words, disagreement in found:
             counts[words] += 1
             if disagreement:
+                wrong += 1
                 print(f"{number}: {words}: {disagreement}", flush=True)
+    return wrong
 
 
 def main():
     global PROGRAM
     parser = argparse.ArgumentParser(description=__doc__, formatter_class=argparse.RawDescriptionHelpFormatter)
-    for name, default in (("documents", 20000), ("damaged", 20000), ("closed", 5000), ("seed", 1), ("jobs", os.cpu_count())):
+    defaults = (("documents", 20000), ("damaged", 20000), ("closed", 5000), ("own", 5000), ("seed", 1), ("jobs", os.cpu_count()))
+    for name, default in defaults:
         parser.add_argument(f"--{name}", type=int, default=default)
     parser.add_argument("--program", default=PROGRAM)
     words = parser.parse_args()
@@ -260,15 +298,18 @@ def main():
         return sum(n for said, n in counts.items() if said.startswith(what + ":"))
 
     with tempfile.TemporaryDirectory() as room, multiprocessing.Pool(words.jobs) as pool:
-        done = 0
+        done = wrong = 0
         while (missing := max(least - total(what) for what, least in wanted.items())) > 0:
             tasks = [(check_one, words.seed, n, room, total("damaged") < words.damaged) for n in range(done, done + min(missing, 1000))]
-            count(pool, tasks, counts)
+            wrong += count(pool, tasks, counts)
             done += len(tasks)
-        count(pool, [(decide_one, words.seed, n, room, False) for n in range(words.closed)], counts)
+        wrong += count(pool, [(decide_one, words.seed, n, room, False) for n in range(words.closed)], counts)
+        done = 0
+        while (missing := words.own - total("own document")) > 0:
+            wrong += count(pool, [(own_one, words.seed, n, room, False) for n in range(done, done + missing)], counts)
+            done += missing
     for said, n in sorted(counts.items()):
         print(f"{n:8} {said}")
-    wrong = sum(n for said, n in counts.items() if "DISAGREE" in said)
     print(f"{wrong} disagreements")
     sys.exit(1 if wrong else 0)
 

@@ -6,7 +6,7 @@ from fractions import Fraction
 import check_evidence
 import draw
 import make_evidence
-from reports import NotAReport, read_bounds, read_stages, read_test, read_weights
+from reports import FRACTION, NAME, WHOLE, NotAReport, read_bounds, read_stages, read_test, read_weights
 
 MOST_SETS, MOST_BOUNDS, MOST_PICTURES = 6, 16, 16  # hypotheses of a table of all sets, of bounds, and of a picture for each step
 
@@ -18,13 +18,13 @@ class Refused(Exception):
 class Findings:
     """A case, and what the program prints of it."""
 
-    def __init__(self, given, run, words=(), labels=None):
+    def __init__(self, given, run, form="text", alpha=None, labels=None):
         self.run, self.given = run, given
-        self.canonical = self.ask(["canon", *words], given)
-        self.before, _, self.staging = self.canonical.partition("\nstages ")
-        self.staging = [line.split(" ") for line in self.staging.split("\n")[1:-1]]
-        self.is_staged = "\nstages " in self.canonical
+        self.canonical = self.ask(["canon", *words_of(form, alpha)], given)
+        self.before, self.staging = parted(self.canonical)
+        self.is_staged = bool(self.staging)
         self.case = self.read_canonical()
+        self.compare_with_given(form, alpha)
         self.names, self.alpha = self.case.names, self.case.alpha
         self.labels = dict(zip(self.names, labels or self.names))
         self.start = {name: sum(part.share * part.weights[k] for part in self.case.components) for k, name in enumerate(self.names)}
@@ -54,13 +54,33 @@ class Findings:
 
     def read_canonical(self):
         """Returns the case of the canonical text, without its stages. The text must be its own canonical text."""
+        numbers = rf"(alpha|p|component|weights)( {FRACTION})+|stages {WHOLE}|(spend|table|arrive) {NAME}( {FRACTION})+"
+        for n, line in enumerate(self.canonical.split("\n")[:-1], 1):
+            fractions = [word for word in line.split(" ")[1:] if "/" in word and not line.startswith("edge ")]
+            spelled = re.fullmatch(rf"{numbers}|hypotheses( {NAME})+|edge {NAME} {NAME} \S+", line)
+            if not spelled or any(str(Fraction(word)) != word for word in fractions):
+                raise NotAReport(f"the text of canon, line {n}: it is not a line of a canonical text")
         try:
-            case = check_evidence.read_case(self.before.removesuffix("\n") + "\n")
+            case = check_evidence.read_case(self.before)
         except check_evidence.Stop as stop:
             raise NotAReport(f"the text of canon is not a case: {stop.args[1].strip()}") from None
         if self.ask(["canon"], self.canonical) != self.canonical:
             raise NotAReport("the text of canon is not the canonical text of its own case")
         return case
+
+    def compare_with_given(self, form, alpha):
+        """Makes sure that the canonical text denotes what the user gave. Stages are compared in the text form alone."""
+        given = self.given.encode("utf-8", "surrogateescape")
+        before, staging = parted(given.decode("latin-1")) if form == "text" else (given.decode("latin-1"), self.staging)
+        if form == "json" and self.is_staged:
+            return
+        try:
+            case = check_evidence.case_of(before.encode("latin-1"), form, alpha)
+            stages = [[value_of(word) for word in words] for words in staging]
+        except check_evidence.Stop as stop:
+            raise NotAReport(f"the program takes a case that check_evidence.py refuses: {stop.args[1].strip()}") from None
+        if case != self.case or stages != [[value_of(word) for word in words] for words in self.staging]:
+            raise NotAReport("the text of canon is that of another case")
 
     def read_decision(self):
         """Reads the decision, and which names it rejects in which order."""
@@ -79,7 +99,7 @@ class Findings:
 
     def single(self, removed):
         """Returns the case with p-values that reject the removed hypotheses and no other one."""
-        blocks = [line for line in self.before.removesuffix("\n").split("\n")[2:] if not line.startswith("p ")]
+        blocks = [line for line in self.before.split("\n")[2:-1] if not line.startswith("p ")]
         p = " ".join("0" if name in removed else "1" for name in self.names)
         return "\n".join(["alpha 1/2", " ".join(["hypotheses", *self.names]), f"p {p}", *blocks, ""])
 
@@ -155,6 +175,27 @@ class Findings:
         return rejected
 
 
+def words_of(form, alpha):
+    """Returns the options of a command that reads a case in a form."""
+    return [*(["--form", form] if form != "text" else []), *(["--alpha", alpha] if alpha is not None else [])]
+
+
+def parted(text):
+    """Returns the part of a text before its stages, and the words of the lines of its stages."""
+    lines = text.split("\n")
+    at = next((n for n, line in enumerate(lines) if re.match("[ \t]*stages[ \t]", line)), len(lines))
+    words = [line.removesuffix("\r").split() for line in lines[at:]]
+    return "\n".join(lines[:at]) + ("\n" if at < len(lines) else ""), [it for it in words if it and it[0][0] != "#"]
+
+
+def value_of(word):
+    """Returns the number that a word denotes; a word that is not a numeral stays."""
+    try:
+        return check_evidence.numeral(word, "")
+    except check_evidence.Stop:
+        return word
+
+
 def updated_edges(part, left):
     """Returns the edges among the hypotheses that are left, as polynomials, or as texts if they are other quotients."""
     arriving, edges = {k: part.exits(k) for k in left}, {}
@@ -172,7 +213,8 @@ def edge_label(above, below):
     """Returns a quotient as draw.py takes it. One that is long is given by its first term."""
     if len(below) == 1:
         return [Fraction(x, below[0]) for x in above]
-    text = f"({draw.edge_text([Fraction(x) for x in above])})/({draw.edge_text([Fraction(x) for x in below])})"
+    parts = [draw.edge_text([Fraction(x) for x in part]) for part in (above, below)]
+    text = "/".join(f"({part})" if re.search("[+−/·]", part[1:]) else part for part in parts)
     if len(text) <= 15:
         return text
     first, second = (next(i for i, x in enumerate(part) if x) for part in (above, below))

@@ -177,12 +177,12 @@ class Case:
         if not re.fullmatch("alpha hypotheses p (weights (edge )*|(component weights (edge )*)+)", kinds):
             raise ValueError("the lines are not alpha, hypotheses, p, weights and edge, in this order")
         [self.alpha], self.names, self.p = self.numerals(1), self.lines.pop(0)[1][1:], self.numerals()
+        if len(self.p) != len({*self.names}) or len(self.p) != len(self.names):
+            raise ValueError("the hypotheses do not have different names and a p-value each")
         self.components = []
         while self.lines:
             [share] = self.numerals(1) if self.lines[0][1][0] == "component" else [Fraction(1)]
             self.components.append(Component(share, self.numerals(), dict(self.edges()), len(self.names)))
-        if len(self.p) != len({*self.names}) or len(self.p) != len(self.names):
-            raise ValueError("the hypotheses do not have different names and a p-value each")
         if not all(0 <= x <= 1 for x in [*self.p, self.alpha, sum(part.share for part in self.components)]) or not self.alpha:
             raise ValueError("the level, a p-value or the sum of the shares is not from 0 to 1, or the level is 0")
 

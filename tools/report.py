@@ -23,11 +23,13 @@ from fractions import Fraction
 from html import escape
 
 import draw
-from findings import MOST_PICTURES, Findings, Refused
+from findings import MOST_PICTURES, Findings, Refused, words_of
 from refusals import explained
 from reports import NotAReport
 
 HERE = os.path.dirname(os.path.abspath(__file__))
+LARGE = 620  # a wider picture has the whole width of the page
+P_VALUE = '<span class="whole">p-value</span>'
 
 STYLE = """
 :root { color-scheme: light; }
@@ -40,18 +42,23 @@ p, li, dd { max-width: 44rem; }
 .answer { font-size: 1.15rem; border-left: .4rem solid #2e6b34; padding: .3rem .8rem; }
 .answer.refused { border-color: #a3324b; }
 .wide { overflow-x: auto; margin: 1rem 0; }
-table { border-collapse: collapse; font-size: .9rem; }
+table { border-collapse: separate; border-spacing: 0; font-size: .9rem; }
 caption { text-align: left; font-weight: bold; padding: .3rem 0; }
-th, td { border: 1px solid #999; padding: .25rem .5rem; text-align: left; vertical-align: top; }
+th, td { border: solid #999; border-width: 0 1px 1px 0; padding: .25rem .5rem; text-align: left; vertical-align: top; }
+thead th { border-top-width: 1px; }
+tr > :first-child { border-left-width: 1px; }
 thead th { background: #eef1f4; vertical-align: bottom; }
-tbody th { background: #fff; position: sticky; left: 0; }
+tbody th { background: #fff; background-clip: padding-box; position: sticky; left: 0; }
 tr.rejected > th { background: #cfe3cf; }
 .decimal { color: #444; white-space: nowrap; }
+.whole { white-space: nowrap; }
 code, pre { font-family: "DejaVu Sans Mono", Menlo, Consolas, monospace; font-size: .85rem; }
 pre { background: #f4f6f8; border: 1px solid #ccc; padding: .6rem; white-space: pre-wrap; overflow-wrap: anywhere; }
 code { overflow-wrap: anywhere; }
 .pictures { display: grid; grid-template-columns: repeat(auto-fit, minmax(min(100%, 24rem), 1fr)); gap: 1rem; padding: 0;
   list-style: none; }
+.pictures.large { grid-template-columns: 1fr; }
+.pictures li { max-width: none; }
 figure { margin: 0; border: 1px solid #ccc; padding: .5rem; }
 figure svg { max-width: 100%; height: auto; display: block; margin: 0 auto; }
 figcaption { font-weight: bold; }
@@ -68,6 +75,7 @@ footer { border-top: 1px solid #999; margin-top: 2.5rem; font-size: .9rem; }
   tr, figure, .answer { break-inside: avoid; }
   h1, h2, h3, caption { break-after: avoid; }
   .pictures { grid-template-columns: 1fr 1fr; }
+  .pictures.large { grid-template-columns: 1fr; }
   pre { background: #fff; }
 }
 """
@@ -130,6 +138,8 @@ def answer(findings):
     kept = [name for name in findings.names if name not in findings.steps]
     said = f"{labels_of(findings, findings.decision.rejected)}" if findings.order else "no hypothesis"
     words = [f"At the level {number(findings.alpha)}, the test rejects <strong>{said}</strong>."]
+    if findings.is_staged and not findings.decision.looks:
+        words.append("No p-value has arrived.")
     if kept and findings.order:
         words.append(f"It does not reject {labels_of(findings, kept)}.")
     return f'<p class="answer">{" ".join(words)}</p>'
@@ -168,7 +178,7 @@ def decision_table(findings):
             number(start[name]),
             number(start[name] * findings.alpha),
         ])
-    head = ["Hypothesis", "Decision", "p-value", "Level when tested", "Weight when tested", "Adjusted p-value", "Weight at the start",
+    head = ["Hypothesis", "Decision", P_VALUE, "Level when tested", "Weight when tested", f"Adjusted {P_VALUE}", "Weight at the start",
             "Level at the start"]
     return "\n".join([
         table("decision", "The decision on each hypothesis", head, rows),
@@ -194,7 +204,7 @@ def staged_table(findings):
             raise NotAReport(f"the report of stages rejects {name} at stage {it.stage}, whose p-value is not at most its level")
         decision = f"rejected, step {findings.steps[name]}, after look {n}"
         rows.append(["rejected", label_of(findings, name), decision, str(it.stage), number(p), number(level), number(it.weight), start])
-    head = ["Hypothesis", "Decision", "Stage", "p-value of the stage", "Level of the stage", "Weight when rejected", "Weight at the start"]
+    head = ["Hypothesis", "Decision", "Stage", f"{P_VALUE} of the stage", "Level of the stage", "Weight when rejected", "Weight at the start"]
     return "\n".join([
         table("decision", "The decision on each hypothesis", head, rows),
         "<p>A hypothesis is rejected as soon as the p-value of one of its stages is at most what the hypothesis has for this stage at its "
@@ -217,7 +227,7 @@ def looks(findings):
     stages = [f"Stage {n}" for n in range(1, max(len(row) for row in spent) - 2)]
     return "\n".join([
         "<h2>The looks at the stages</h2>",
-        table("looks", "The p-values in the order in which they arrived, and what was rejected then", ["Look", "Hypothesis", "Stage", "p-value", "Rejected"], rows)
+        table("looks", "The p-values in the order in which they arrived, and what was rejected then", ["Look", "Hypothesis", "Stage", P_VALUE, "Rejected"], rows)
         if rows else "<p>No p-value has arrived.</p>",
         table("spends", "What each hypothesis spends at each stage", ["Hypothesis", "Unit", *stages], spent),
     ])
@@ -243,15 +253,16 @@ def described(findings, state):
 def pictures(findings):
     """The graph before the first rejection and after each."""
     centre = draw.centres(findings.case, draw.edges_of(findings.case))
-    items = []
+    items, widest = [], 0
     for n, state in enumerate(findings.states):
         after = f"After step {n}: {findings.labels[findings.order[n - 1]]} is rejected" if n else "Before the first rejection"
-        title = after + (", the end" if n == len(findings.order) else "")
+        title = after + (", the end" if n == len(findings.order) else "") if findings.order else "The graph: no hypothesis is rejected"
         if isinstance(state, Refused):
             items.append(f"<li><p>{escape(title)}: there is no picture, since the program prints no weights for it.</p>{refusal_list(state)}</li>")
             continue
         numbers = {findings.labels[name]: str(findings.steps[name]) for name in state.removed}
         drawn = draw.picture(state.case, numbers, centre, f"graph{n}-", title, described(findings, state))
+        widest = max(widest, int(re.search(r' width="(\d+)"', drawn)[1]))
         items.append(f"<li><figure>\n<figcaption>{escape(title)}</figcaption>\n{drawn}</figure></li>")
     words = "" if len(findings.names) <= MOST_PICTURES else f"<p>Graphs of more than {MOST_PICTURES} hypotheses are drawn once.</p>"
     return "\n".join([
@@ -259,7 +270,7 @@ def pictures(findings):
         "<p>A circle has the name of a hypothesis and its weight. An arrow has the part of the weight that it passes on if its hypothesis "
         "is rejected. The weights are those that the program prints; it prints no edges, so the edges after a rejection are computed "
         f"for the pictures, and the weights that they give were compared with the program's.</p>{words}",
-        '<ol class="pictures">', *items, "</ol>",
+        f'<ol class="pictures{" large" if widest > LARGE else ""}">', *items, "</ol>",
     ])
 
 
@@ -406,11 +417,11 @@ def decision_page(findings, file, words, program):
 def document(case_text, run, form="text", alpha=None, file="trial.txt", labels=None, program=()):
     """The status of the program, and the page about its decision or its refusal. See `page`."""
     given = case_text if isinstance(case_text, str) else case_text.decode("utf-8", "surrogateescape")
-    words = [*(["--form", form] if form != "text" else []), *(["--alpha", alpha] if alpha is not None else [])]
+    words = words_of(form, alpha)
     try:
-        return 0, decision_page(Findings(given, run, words, labels), file, words, program)
+        return 0, decision_page(Findings(given, run, form, alpha, labels), file, words, program)
     except Refused as refused:
-        return refused.args[1], refusal_page(refused, given, file, words if refused.args[0] == "canon" else [], program)
+        return refused.args[1], refusal_page(refused, given, file, words, program)
 
 
 def page(case_text, run, **how):

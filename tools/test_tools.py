@@ -325,6 +325,7 @@ class Checker(unittest.TestCase):
             ('["A"]', '["A\n"]', "json: syntax"),
             ('["A"]', "[1]", "/hypotheses/0: shape"),
             ("{", "\ufeff{", "json: syntax"),
+            ("{", '{"stages":{"count":1,"spend":[[1]],"arrivals":[]},', "kind"),
         ]:
             with self.subTest(new):
                 self.assertEqual(answer(case.replace(old, new, 1), proof, "json"), (3, f"malformed: {wanted}\n"))
@@ -472,6 +473,36 @@ class Pictures(unittest.TestCase):
         self.assertEqual(drawn, content("docs", "pictures", "holm.svg"))
         texts = [text.text for text in xml.etree.ElementTree.fromstring(drawn).iter(SVG + "text")]
         self.assertLessEqual({"H1", "H2", "H3", "1", "2", "3", "1/3", "level α = 0.025"}, set(texts))
+
+    def test_other_reports(self):
+        """Whether a text that is not the report of test on the case is refused by one line, and nothing is drawn."""
+        report = next(row for row in ROWS if row.file == "holm.txt").text("ends")
+        five = next(row for row in ROWS if row.file == "holm-five.txt").text("ends")
+        case = os.path.join(TOP, "examples", "holm.txt")
+        changes = [
+            ("alpha 1/40\n", ""), ("alpha 1/40", "alpha 1/20"), ("end\n", ""), ("H3 p", "H4 p"), ("p 1/50", "p 1/40"), ("step 3 H3 p 1/50 weight 1\n", ""),
+            ("rejected H1 H2 H3", "rejected H1 H2"), ("adjusted H3 1/50\n", ""), (report, five), (report, ""), (report, content("examples", "holm.txt")),
+            (report, "too wide: step 3: component 1 weight of H4 mul\n"), (report, "malformed: kind\n"),
+        ]
+        with tempfile.TemporaryDirectory() as room:
+            path = os.path.join(room, "report")
+            for old, new in changes:
+                with self.subTest(new):
+                    self.assertIn(old, report)
+                    with open(path, "w", encoding="utf-8") as file:
+                        file.write(report.replace(old, new))
+                    done = subprocess.run([sys.executable, os.path.join(TOOLS, "draw.py"), case, path], capture_output=True, text=True)
+                    self.assertEqual((done.returncode, done.stdout, done.stderr.count("\n")), (1, "", 1))
+
+    def test_inline(self):
+        """Whether a picture in a page names and describes itself, and keeps its names apart from those of others."""
+        case = check_evidence.read_case(SEQUENCE)
+        root = xml.etree.ElementTree.fromstring(draw.picture(case, prefix="one-", title="A <graph>", description="H1 & others"))
+        self.assertEqual((root.get("role"), root.get("aria-labelledby")), ("img", "one-title one-desc"))
+        texts = {it.get("id"): it.text for it in [*root.iter(SVG + "title"), *root.iter(SVG + "desc")]}
+        self.assertEqual(texts, {"one-title": "A <graph>", "one-desc": "H1 & others"})
+        self.assertEqual([it.get("id") for it in root.iter(SVG + "marker")], ["one-head0"])
+        self.assertEqual({it.get("marker-end") for it in root.iter(SVG + "path")} - {None}, {"url(#one-head0)"})
 
     def test_edge_text(self):
         """Whether an edge is written as a reader expects it."""

@@ -1,0 +1,133 @@
+#!/usr/bin/env python3
+"""Measures how far numbers carry: of random graphs of each kind and size, how many the program refuses as too wide.
+
+    bench/carry.py [--graphs N] [--seed S] [--sizes N,N,..] [--kinds WORD,WORD,..] [--program PATH]
+
+A number of the program has parts below 2^127 and a degree in epsilon of at most 32. Each graph has weights of 1 over the number of
+hypotheses, and all p-values are 0, so that everything is rejected and each number of the run is written. Prints a table in Markdown:
+a row for each kind, a column for each size, and in each cell how many graphs of N (20) `test` refuses, a slash, and how many
+`evidence` refuses. Ends with status 1 if the program ends with another status than 0 or 5.
+"""
+import argparse
+import os
+import random
+import subprocess
+import sys
+from fractions import Fraction
+
+PROGRAM = os.path.join(os.path.dirname(os.path.abspath(__file__)), "..", "crates", "welungad", "out", "welungad")
+DONE, TOO_WIDE = 0, 5
+
+
+# ---- graphs: the expression of each edge, by its two ends
+
+
+def parts_of(rng, total, count):
+    """The requested number of random whole numbers above 0 with this total."""
+    cuts = sorted(rng.sample(range(1, total), count - 1))
+    return [b - a for a, b in zip([0, *cuts], [*cuts, total])]
+
+
+def rows_of(rng, size, count, expressions):
+    """Edges from each hypothesis to some others, with expressions that a function makes for each row."""
+    edges = {}
+    for i in range(size):
+        ends = rng.sample([j for j in range(size) if j != i], min(count, size - 1))
+        edges.update(zip([(i, j) for j in ends], expressions(rng, len(ends))))
+    return edges
+
+
+def holm(_, size):
+    return {(i, j): f"1/{size - 1}" for i in range(size) for j in range(size) if i != j}
+
+
+def fallback(_, size):
+    return {(i, i + 1): "1" for i in range(size - 1)}
+
+
+def multiples(count, denominator):
+    """Rows of some edges that are multiples of 1 over a denominator; over a power of ten they are decimals."""
+    def row(rng, ends):
+        return [str(Fraction(part, denominator)) for part in parts_of(rng, denominator, ends)]
+    return lambda rng, size: rows_of(rng, size, count, row)
+
+
+def alike(count, expression):
+    """Rows of some edges that are the same in each row."""
+    return lambda rng, size: rows_of(rng, size, count, lambda _, ends: [expression] * ends)
+
+
+def small(count):
+    """Rows of some edges, the first of which is epsilon and the others of which are equal."""
+    return lambda rng, size: rows_of(rng, size, count, lambda _, ends: ["\\epsilon", *[f"(1-\\epsilon)/{max(1, ends - 1)}"] * (ends - 1)])
+
+
+def families(_, size):
+    """Two Holm families, each hypothesis of which passes epsilon to its fellow in the other one."""
+    half = size // 2
+    edges = {}
+    for first in (0, half):
+        for i in range(half):
+            edges.update({(first + i, first + j): f"(1-\\epsilon)/{half - 1}" for j in range(half) if j != i})
+            edges[first + i, half - first + i] = "\\epsilon"
+    return edges
+
+
+KINDS = {
+    "holm": ("Holm", holm),
+    "fallback": ("fallback", fallback),
+    "two": ("three edges a row, two decimals", multiples(3, 100)),
+    "three": ("three edges a row, three decimals", multiples(3, 1000)),
+    "dense": ("all edges, two decimals", lambda rng, size: multiples(size - 1, 100)(rng, size)),
+    "rounded": ("three edges a row, of 0.333 each", alike(3, "0.333")),
+    "thirds": ("three edges a row, of 1/3 each", alike(3, "1/3")),
+    "twelfths": ("three edges a row, twelfths", multiples(3, 12)),
+    "tenths": ("three edges a row, tenths", multiples(3, 10)),
+    "quarters": ("three edges a row, quarters", multiples(3, 4)),
+    "epsilon": ("three edges a row, one of them epsilon", small(3)),
+    "families": ("two Holm families joined by epsilon", families),
+}
+
+
+# ---- the program
+
+
+def case_of(edges, size):
+    lines = ["alpha 0.05", " ".join(["hypotheses", *(f"H{i}" for i in range(size))]), "p" + " 0" * size, f"weights{f' 1/{size}' * size}"]
+    return "\n".join([*lines, *(f"edge H{i} H{j} {edge}" for (i, j), edge in sorted(edges.items())), ""])
+
+
+def is_too_wide(program, command, case):
+    done = subprocess.run([program, command], input=case.encode(), stdout=subprocess.PIPE, check=False, timeout=600)
+    if done.returncode not in (DONE, TOO_WIDE):
+        sys.exit(f"carry.py: {command} ended with status {done.returncode}: {done.stdout[:200].decode()}\n{case}")
+    return done.returncode == TOO_WIDE
+
+
+def cell(words, kind, size):
+    """How many graphs of a kind and a size are refused by `test`, and by `evidence`."""
+    counts = [0, 0]
+    for n in range(words.graphs):
+        case = case_of(KINDS[kind][1](random.Random(f"{words.seed}/{kind}/{size}/{n}"), size), size)
+        for at, command in enumerate(("test", "evidence")):
+            counts[at] += is_too_wide(words.program, command, case)
+    return "{}/{}".format(*counts)
+
+
+def main():
+    parser = argparse.ArgumentParser(description=__doc__, formatter_class=argparse.RawDescriptionHelpFormatter)
+    parser.add_argument("--graphs", type=int, default=20)
+    parser.add_argument("--seed", default="1")
+    parser.add_argument("--sizes", default="4,6,8,10,12,16,24,32,64")
+    parser.add_argument("--kinds", default=",".join(KINDS))
+    parser.add_argument("--program", default=PROGRAM)
+    words = parser.parse_args()
+    sizes = [int(size) for size in words.sizes.split(",")]
+    print(" | ".join(["| Graph", *(f"{size}" for size in sizes)]) + " |")
+    print("|---" * (len(sizes) + 1) + "|")
+    for kind in words.kinds.split(","):
+        print(" | ".join([f"| {KINDS[kind][0]}", *(cell(words, kind, size) for size in sizes)]) + " |", flush=True)
+
+
+if __name__ == "__main__":
+    main()

@@ -1,0 +1,546 @@
+"""Tests of report.py and of what it stands on: reports.py, refusals.py, findings.py. `tools/run_tests.sh` runs them.
+
+    python3 test_report.py --pages N [--seed S]
+
+compares each number of the pages of N random cases with the program's reports, which the tests do for few.
+"""
+import argparse
+import hashlib
+import html.parser
+import os
+import random
+import re
+import subprocess
+import sys
+import tempfile
+import unittest
+from fractions import Fraction
+
+TOOLS = os.path.dirname(os.path.abspath(__file__))
+TOP = os.path.dirname(TOOLS)
+sys.path[:0] = [TOOLS, os.path.join(TOP, "bench"), os.path.join(TOP, "python")]
+
+import acceptance_rows  # noqa: E402
+import check_evidence  # noqa: E402
+import checkers  # noqa: E402
+import draw  # noqa: E402
+import findings  # noqa: E402
+import refusals  # noqa: E402
+import report  # noqa: E402
+import reports  # noqa: E402
+import test_tools  # noqa: E402
+
+VOID = {"meta", "br"}
+
+
+class Element:
+    """An element of a page: its name, its attributes, and the elements and texts in it."""
+
+    def __init__(self, name, attributes):
+        self.name, self.attributes, self.content = name, dict(attributes), []
+
+    def all(self, *names):
+        """Yields the elements with these names in it, in their order."""
+        for part in self.content:
+            if isinstance(part, Element):
+                if part.name in names:
+                    yield part
+                yield from part.all(*names)
+
+    def text(self):
+        return "".join(part if isinstance(part, str) else part.text() for part in self.content)
+
+
+class Reader(html.parser.HTMLParser):
+    """Reads a page, each of whose elements has to be closed where it was opened."""
+
+    def __init__(self, page):
+        super().__init__(convert_charrefs=True)
+        self.open = [Element("", {})]
+        self.feed(page)
+        self.close()
+        [self.page] = self.open
+
+    def handle_starttag(self, name, attributes):
+        self.open[-1].content.append(Element(name, attributes))
+        if name not in VOID:
+            self.open.append(self.open[-1].content[-1])
+
+    def handle_startendtag(self, name, attributes):
+        self.open[-1].content.append(Element(name, attributes))
+
+    def handle_endtag(self, name):
+        closed = self.open.pop()
+        assert closed.name == name, (closed.name, name)
+
+    def handle_data(self, text):
+        self.open[-1].content.append(text)
+
+
+def read(page):
+    return Reader(page).page
+
+
+def rows_of(page, name):
+    """The texts of the cells of the table whose caption has this name."""
+    for table in page.all("table"):
+        if next(table.all("caption")).attributes["id"] == name:
+            return [[cell.text() for cell in row.all("th", "td")] for row in table.all("tr")]
+    return None
+
+
+# ---- two hypotheses, whose reports are by hand
+
+CASE = "# two <doses>\nalpha 0.05\nhypotheses H1 H2\np 0.025 0.026\nweights 1/2 1/2\n"
+CANON = "alpha 1/20\nhypotheses H1 H2\np 1/40 13/500\nweights 1/2 1/2\n"
+TEST = """alpha 1/20
+step 1 H1 p 1/40 weight 1/2
+kept H2 p 13/500 weight 1/2
+rejected H1
+adjusted H1 1/20
+adjusted H2 13/250
+end
+"""
+START = """alpha 1/2
+kept H1 p 1 weight 1/2
+kept H2 p 1 weight 1/2
+rejected
+adjusted H1 1 not reached
+adjusted H2 1 not reached
+end
+"""
+AFTER = """alpha 1/2
+step 1 H1 p 0 weight 1/2
+kept H2 p 1 weight 1/2
+rejected H1
+adjusted H1 0
+adjusted H2 1 not reached
+end
+"""
+WEIGHTS = "weights 2\nset H1=1/2 H2=1/2\nset H2=1/2\nset H1=1/2\nend\n"
+BOUNDS = "bounds 2\nbound 1 of H1 H2\nbound 0 of H2\nbound 1 of H1\nend\n"
+ANSWERS = {
+    ("canon", CASE): CANON,
+    ("canon", CANON): CANON,
+    ("test", CANON): TEST,
+    ("test", CANON.replace("alpha 1/20", "alpha 1/2").replace("p 1/40 13/500", "p 1 1")): START,
+    ("test", CANON.replace("alpha 1/20", "alpha 1/2").replace("p 1/40 13/500", "p 0 1")): AFTER,
+    ("weights", CANON): WEIGHTS,
+    ("bounds", CANON): BOUNDS,
+    ("evidence", CANON): "evidence 2\nstep H1\nkeep H2\nexit 1 H1 0\nend\n",
+}
+
+
+def answering(**others):
+    """A function that answers as the program does, but for the commands that are given."""
+    def run(words, case):
+        given = others.get(words[0], ANSWERS.get((words[0], case), (1, "")))
+        return given if isinstance(given, tuple) else (0, given)
+    return run
+
+
+class Pages(unittest.TestCase):
+    def check_form(self, text):
+        """Makes sure that a page is accessible, and that it needs nothing else."""
+        page = read(text)
+        [root] = [part for part in page.content if isinstance(part, Element)]
+        self.assertEqual((root.name, root.attributes), ("html", {"lang": "en"}))
+        self.assertTrue(next(root.all("title")).text())
+        levels = [int(heading.name[1]) for heading in root.all("h1", "h2", "h3", "h4")]
+        self.assertEqual((levels[0], levels.count(1)), (1, 1))
+        self.assertTrue(all(after <= before + 1 for before, after in zip(levels, levels[1:])), levels)
+        names = [it.attributes["id"] for it in root.all("title", "desc", "caption", "marker") if "id" in it.attributes]
+        self.assertEqual(len(names), len({*names}))
+        for table in root.all("table"):
+            self.assertEqual(len([*table.all("caption")]), 1)
+            self.assertTrue(all(cell.attributes["scope"] in ("row", "col") for cell in table.all("th")))
+            rows = [[cell.name for cell in row.all("th", "td")] for row in table.all("tr")]
+            self.assertTrue(all(len(row) == len(rows[0]) and row[0] == "th" for row in rows), rows)
+        for picture in root.all("svg"):
+            self.assertEqual(picture.attributes["role"], "img")
+            labels = [it.attributes["id"] for it in picture.all("title", "desc") if it.text()]
+            self.assertEqual(picture.attributes["aria-labelledby"].split(), labels)
+        self.assertEqual([*root.all("script", "link", "img", "iframe", "object", "image")], [])
+        self.assertNotRegex(text.replace("http://www.w3.org/2000/svg", ""), r"https?:|url\((?!#)|@import|\bon[a-z]+=|\bsrc=")
+        return page
+
+    def test_two_hypotheses(self):
+        """Whether the page has the numbers of the reports, which are by hand."""
+        page = self.check_form(report.page(CASE, answering(), file="two.txt", program=[("SHA-256 digest of the program", "abc")]))
+        head = ["Hypothesis", "Decision", "p-value", "Level when tested", "Weight when tested", "Adjusted p-value", "Weight at the start",
+                "Level at the start"]
+        half, level = "1/2 = 0.5", "1/40 = 0.025"
+        self.assertEqual(rows_of(page, "decision"), [
+            head,
+            ["H1", "rejected, step 1", level, level, half, "1/20 = 0.05", half, level],
+            ["H2", "not rejected", "13/500 = 0.026", level, half, "13/250 = 0.052", half, level],
+        ])
+        self.assertEqual(rows_of(page, "sets"), [
+            ["Intersection of", "Weight of H1", "Weight of H2", "Local test rejects", "Closed test rejects", "False hypotheses, at least"],
+            ["H1, H2", "1/2", "1/2", "yes", "yes", "1"],
+            ["H1", "1/2", "–", "yes", "yes", "1"],
+            ["H2", "–", "1/2", "no", "no", "0"],
+        ])
+        self.assertEqual(rows_of(page, "bounds")[1:], [["1", "H1", "1"], ["2", "H1 and H2", "1"]])
+        pictures = [*page.all("figure")]
+        self.assertEqual([next(it.all("figcaption")).text() for it in pictures], ["Before the first rejection", "After step 1: H1 is rejected, the end"])
+        self.assertEqual([next(it.all("desc")).text() for it in pictures],
+                         ["H1 has the weight 1/2. H2 has the weight 1/2.", "Rejected: H1. H2 has the weight 1/2."])
+        pre = [it.text() for it in page.all("pre")]
+        self.assertEqual(pre[:3], [CASE.rstrip("\n"), CANON, TEST])
+        self.assertIn("welungad canon < two.txt > case.txt\n", pre[3])
+        self.assertIn(hashlib.sha256(CANON.encode()).hexdigest(), page.text())
+        self.assertIn("SHA-256 digest of the programabc", page.text())
+        self.assertIn("At the level 1/20 = 0.05, the test rejects H1. It does not reject H2.", page.text())
+
+    def test_other_reports(self):
+        """Whether there is no page if a report lacks its end, is of another command or case, or disagrees with another report."""
+        changes = {
+            "canon": [(CANON, ""), (CANON, CASE), (CANON, TEST), ("1/20", "0.05"), ("H2", "H1"), ("1/2\n", "1/2 1\n"), ("1/40", "1/50"),
+                      ("1/20", "1/10"), ("1/2 1/2", "1/2 1/3"), ("weights", "component 1/2\nweights"), ("1/2\n", "1/2\nedge H1 H2 1\n")],
+            "test": [
+                (TEST, ""), (TEST, CANON), (TEST, START), ("end\n", ""), ("end\n", "end\nend\n"), ("H2", "H3"), ("alpha 1/20", "alpha 1/40"),
+                ("p 1/40", "p 1/50"), ("step 1", "step 2"), ("rejected H1", "rejected"), ("rejected H1", "rejected H1 H2"),
+                ("13/250", "26/500"), ("adjusted H2 13/250\n", ""), ("1/20\n", "0.05\n"), ("kept H2 p 13/500 weight 1/2\n", ""),
+                ("weight 1/2\nrejected", "weight 1/3\nrejected"), ("1 H1 p 1/40 weight 1/2", "1 H1 p 1/40 weight 2/3"),
+                ("rejected H1\n", "rejected H1\n\n"), ("adjusted H1", "adjusted H2"),
+            ],
+            "weights": [(WEIGHTS, ""), (WEIGHTS, BOUNDS), ("end\n", ""), ("weights 2", "weights 3"), ("set H2=1/2\n", ""), ("set H1=1/2\nend", "set H2=1/2\nend"),
+                        ("set H2=1/2\nset H1=1/2\n", "set H1=1/2\nset H2=1/2\n"), ("set H2=1/2\n", "set H2=1\n")],
+            "bounds": [(BOUNDS, ""), (BOUNDS, WEIGHTS), ("end\n", ""), ("bound 1 of H1\n", ""), ("bound 0 of H2", "bound 2 of H2"),
+                       ("bound 0 of H2", "bound 1 of H2"), ("bound 1 of H1 H2", "bound 1 of H2 H1")],
+        }
+        true = {"canon": CANON, "test": TEST, "weights": WEIGHTS, "bounds": BOUNDS}
+        for command, pairs in changes.items():
+            for old, new in pairs:
+                text = true[command].replace(old, new)
+                self.assertNotEqual(text, true[command])
+
+                def run(words, case, command=command, text=text):
+                    first = (words[0], case) in ANSWERS and case in (CASE, CANON)
+                    return (0, text) if words[0] == command and first else answering()(words, case)
+
+                with self.subTest(command=command, text=text), self.assertRaises(reports.NotAReport):
+                    report.page(CASE, run)
+
+    def test_another_case(self):
+        """Whether there is no page if the canonical text is that of another case than the user gave, or not canonical."""
+        for old, new in [("0.026", "0.027"), ("alpha 0.05", "alpha 0.06"), ("H2", "H3"), ("weights 1/2", "weights 1/3"), ("1/2\n", "1/2\nedge H1 H2 1\n")]:
+            with self.subTest(new), self.assertRaises(reports.NotAReport):
+                report.page(CASE.replace(old, new), answering(canon=(0, CANON)))
+        with self.assertRaises(reports.NotAReport):
+            report.page(CASE, lambda words, case: (0, START) if (words[0], case) == ("canon", CANON) else answering()(words, case))
+
+    def test_weights_disagree(self):
+        """Whether there is no picture if the program's weights are not those of the graph that is drawn."""
+        held = findings.Findings(CASE, answering())
+        self.assertEqual(held.states[0].weights, {"H1": Fraction(1, 2), "H2": Fraction(1, 2)})
+        held.run = answering(test=(0, START.replace("kept H2 p 1 weight 1/2", "kept H2 p 1 weight 1/3")))
+        with self.assertRaises(reports.NotAReport):
+            [*held.all_states()]
+
+    def test_graphs_disagree(self):
+        """Whether there is no page if the program's weights after a rejection are not those of the graph."""
+        def run(words, case):
+            status, text = answering()(words, case)
+            return status, text.replace("kept H2 p 1 weight 1/2", "kept H2 p 1 weight 1/3") if text == AFTER else text
+        with self.assertRaises(reports.NotAReport):
+            report.page(CASE, run)
+
+    def test_refusals(self):
+        """Whether a refused case has a page with the cause and the cure, and marks the line."""
+        bad = CASE.replace("0.025", "2.5% <b>")
+        status, text = report.document(bad, answering(canon=(3, "malformed: line 4: number\n")), file="a b.txt")
+        page = self.check_form(text)
+        self.assertEqual(status, 3)
+        self.assertEqual([it.text() for it in page.all("mark")], ["p 2.5% <b> 0.026"])
+        self.assertEqual([it.text() for it in page.all("dd")], [
+            "malformed: line 4: number (status 3 of canon)", "A word is not a numeral.",
+            "Write 0.025, 1/40 or 2.5e-2; no percent sign, no decimal comma.",
+        ])
+        self.assertIn("welungad canon < 'a b.txt'", page.text())
+        status, text = report.document(CASE, answering(test=(5, "too wide: step 3: component 1 weight of H4 mul\n")))
+        self.assertEqual(status, 5)
+        self.assertIn("2^127", self.check_form(text).text())
+        for status, said in [(3, ""), (3, "malformed: kind"), (-11, ""), (3, "malformed: kind\nmore\n")]:
+            with self.assertRaises(reports.NotAReport):
+                report.page(CASE, answering(canon=(status, said)))
+
+    def test_partial_refusals(self):
+        """Whether a refusal of one of the other reports is in its section, and the decision stays."""
+        wide = "too wide: set H1: component 1 weight of H2 mul\n"
+        page = self.check_form(report.page(CASE, answering(weights=(5, wide), bounds=(5, wide), evidence=(5, wide))))
+        self.assertEqual(len(rows_of(page, "decision")), 3)
+        self.assertIsNone(rows_of(page, "sets"))
+        self.assertEqual(page.text().count(wide.strip()), 2)
+        self.assertIn("make_evidence.py case.txt report.txt", page.text())
+
+    def test_texts_of_the_user(self):
+        """Whether what the user wrote is shown and never taken as markup: comments, labels, the name of the file."""
+        case = CASE.replace("two <doses>", "</pre><script>alert(1)</script> & \u00fc")
+        run = answering(canon=(0, CANON))
+        text = report.page(case, run, file="<b>.txt", labels=["low <dose> & \"more\"", "high\u00fc"], program=[("<i>", "<u>")])
+        page = self.check_form(text)
+        self.assertIn("# </pre><script>alert(1)</script> & \u00fc\n", next(page.all("pre")).text())
+        self.assertEqual(next(page.all("h1")).text(), "The decision on <b>.txt")
+        self.assertEqual([row[0] for row in rows_of(page, "decision")[1:]], ["low <dose> & \"more\" (H1)", "high\u00fc (H2)"])
+        self.assertIn("<u>", [it.text() for it in page.all("code")])
+        self.assertIn("welungad canon < '<b>.txt'", page.text())
+        broken = report.page(b"# \xff\n" + CASE.encode(), lambda words, given: (0, CANON) if words[0] == "canon" else answering()(words, given))
+        self.assertIn("# \ufffd\n", next(read(broken).all("pre")).text())
+
+    def test_numbers(self):
+        """Whether a decimal is exact, or marked as not exact."""
+        for x, wanted in [("1/40", "= 0.025"), ("1/3", "≈ 0.33333"), ("-1/8", "= 0.125"), ("3/2", "= 1.5"), ("1/12345678901", "≈ 8.1e-11"),
+                          ("1/200000000", "≈ 5e-09"), ("1/100000000", "= 0.00000001")]:
+            self.assertEqual(report.decimal_text(Fraction(x)), wanted)
+
+    def test_script(self):
+        """Whether the script prints a page with the program's status, or nothing and one line on standard error."""
+        with tempfile.TemporaryDirectory() as room:
+            case, program = (os.path.join(room, name) for name in ("case.txt", "program"))
+            with open(case, "w", encoding="utf-8") as file:
+                file.write(CASE)
+            for script, wanted in [("exec cat", 1), ("true", 1), ("echo 'malformed: line 2: number'; exit 3", 3), ("exit 3", 1)]:
+                with open(program, "w", encoding="utf-8") as file:
+                    file.write(f"#!/bin/sh\n{script}\n")
+                os.chmod(program, 0o755)
+                words = [sys.executable, os.path.join(TOOLS, "report.py"), case, "--program", program]
+                done = subprocess.run(words, capture_output=True, text=True, encoding="utf-8")
+                self.assertEqual(done.returncode, wanted, script)
+                self.assertEqual((done.stdout == "", done.stderr.count("\n")), (wanted == 1, int(wanted == 1)), script)
+                if wanted == 3:
+                    self.check_form(done.stdout)
+
+
+class Refusals(unittest.TestCase):
+    def test_rows(self):
+        """Whether each line with which a row of the tables is refused has a cause in the page."""
+        count = 0
+        for row in acceptance_rows.all_rows():
+            said = b"".join(row.printed).decode("latin-1").removesuffix("\n")
+            if row.status > 1 and row.status != 7 and said and not said.startswith("limit: proof bytes"):
+                count += 1
+                self.assertIsNotNone(refusals.explained(said, row.words[0] if row.words else ""), said)
+        self.assertGreater(count, 200)
+
+    def test_causes(self):
+        """Whether a line has the cause of its own row: of a text in a sheet and in JSON too, and by the command."""
+        for line, command, cause in [
+            ("malformed: line 3: number", "test", "A word is not a numeral."),
+            ("malformed: row 2 column 3: number", "test", "A word is not a numeral."),
+            ("malformed: /p/1: number", "test", "A word is not a numeral."),
+            ("malformed: kind", "test", "The case lacks a p-value for each hypothesis."),
+            ("malformed: kind", "stages", "The case has no stages, or, for `study`, has arrivals."),
+            ("malformed: case: weight sum component 2", "canon", "The weights sum to more than 1."),
+            ("malformed: : shape", "test", "A value is of the wrong kind, a key is missing, or an object has an unknown key."),
+        ]:
+            self.assertEqual(refusals.explained(line, command)[0], cause)
+        self.assertIsNone(refusals.explained("no such line", "test"))
+
+
+class Stages(unittest.TestCase):
+    def test_levels(self):
+        """Whether the level of a stage is that of the case, by fractions and by a table: FORMATS has both for the trial."""
+        case = test_tools.content("examples", "staged-levels.txt")
+        held = findings.Findings.__new__(findings.Findings)
+        held.alpha = Fraction(1, 40)
+        held.staging = [line.split() for line in case.split("\n") if line[:5] in ("table", "spend")]
+        self.assertEqual(held.level("PFS", 1, Fraction(1, 5)), Fraction(3, 1000))
+        self.assertEqual(held.level("OS", 2, Fraction(1)), Fraction(3, 160))
+        self.assertEqual(held.level("OS", 2, Fraction(9, 10)), Fraction(3, 200))
+        self.assertEqual(held.level("OS", 2, Fraction(1, 2)), 0)
+        held.staging = [["spend", "PFS", "3/5", "2/5"], ["spend", "OS", "1/4", "3/4"]]
+        self.assertEqual(held.level("PFS", 1, Fraction(1, 5)), Fraction(3, 1000))
+        self.assertEqual(held.level("OS", 2, Fraction(1)), Fraction(3, 160))
+
+
+# ---- pages of random cases against the program
+
+
+def ask(words, case):
+    done = subprocess.run([test_tools.PROGRAM, *words], input=case.encode(), stdout=subprocess.PIPE, check=False)
+    return done.returncode, done.stdout.decode()
+
+
+def lines_of(words, case):
+    status, text = ask(words, case)
+    assert status == 0, text
+    return [line.split() for line in text.split("\n")[:-2]]
+
+
+def value(text):
+    """The fraction that a cell begins with, whose decimal has to be near it, and exactly it after an equals sign."""
+    exact, *rest = text.split()
+    if rest:
+        [sign, decimal] = rest
+        assert sign in "=≈" and abs(Fraction(decimal) - Fraction(exact)) <= (0 if sign == "=" else Fraction(exact) / 10**4), text
+    return Fraction(exact)
+
+
+def blocks_of(canon):
+    """The lines of each component: of its weights, and of its edges."""
+    found = []
+    for line in canon.split("\n"):
+        if line.startswith("weights"):
+            found.append([])
+        elif line.startswith("edge"):
+            found[-1].append(line)
+    return found
+
+
+class Compared:
+    """The page of a case, compared with what the program prints: each number has to be that of a report."""
+
+    def __init__(self, test, canon):
+        self.test, self.canon = test, canon
+        self.page = read(report.page(canon, ask))
+        self.names = canon.split("\n")[1].split()[1:]
+        self.decided = lines_of(["test"], canon)
+        self.alpha = Fraction(self.decided[0][1])
+        self.order = [line[2] for line in self.decided if line[0] == "step"]
+        self.sets = {tuple(part.split("=")[0] for part in line[1:]): {name: Fraction(w) for name, w in (part.split("=") for part in line[1:])}
+                     for line in lines_of(["weights"], canon)[1:]}
+        self.bounds = {tuple(line[3:]): line[1] for line in lines_of(["bounds"], canon)[1:]}
+
+    def decision(self):
+        start = self.sets[tuple(self.names)]
+        tested = {line[-5]: line for line in self.decided if line[0] in ("step", "kept")}
+        adjusted = {line[1]: line[2:] for line in self.decided if line[0] == "adjusted"}
+        rows = rows_of(self.page, "decision")[1:]
+        self.test.assertEqual([row[0] for row in rows], self.names)
+        for name, verdict, p, level, weight, least, first, begin in rows:
+            line = tested[name]
+            self.test.assertEqual(verdict, f"rejected, step {line[1]}" if line[0] == "step" else "not rejected")
+            self.test.assertEqual((value(p), value(weight)), (Fraction(line[-3]), Fraction(line[-1])))
+            self.test.assertEqual((value(level), value(begin)), (Fraction(line[-1]) * self.alpha, start[name] * self.alpha))
+            self.test.assertEqual(value(first), start[name])
+            if adjusted[name][1:]:
+                self.test.assertEqual(least, "above 1")
+            else:
+                self.test.assertEqual(value(least), Fraction(adjusted[name][0]))
+
+    def all_sets(self):
+        found = {tuple(row[0].split(", ")): row[1:] for row in rows_of(self.page, "sets")[1:]}
+        self.test.assertEqual(found.keys(), self.sets.keys())
+        p = {line[-5]: Fraction(line[-3]) for line in self.decided if line[0] in ("step", "kept")}
+        for members, cells in found.items():
+            weights = self.sets[members]
+            self.test.assertEqual(cells[: len(self.names)], [str(weights.get(name, "–")) for name in self.names])
+            local = any(0 < w and p[name] <= w * self.alpha for name, w in weights.items())
+            closed = self.bounds[members] != "0"
+            self.test.assertEqual(cells[len(self.names) :], ["yes" if local else "no", "yes" if closed else "no", self.bounds[members]])
+
+    def best(self):
+        p = {line[-5]: Fraction(line[-3]) for line in self.decided if line[0] in ("step", "kept")}
+        ranked = sorted(self.names, key=lambda name: p[name])
+        for count, which, bound in rows_of(self.page, "bounds")[1:]:
+            members = tuple(name for name in self.names if name in ranked[: int(count)])
+            self.test.assertEqual((set(which.replace(" and ", ", ").split(", ")), bound), ({*members}, self.bounds[members]))
+
+    def edges(self, component, removed):
+        """The limits of the edges of a component after removals: with all weight at the first end, and this end removed too, the
+        other hypotheses have what the edges give them."""
+        found = {}
+        for name in self.names:
+            if name not in removed:
+                weights = " ".join("1" if other == name else "0" for other in self.names)
+                case = "\n".join(["alpha 1", " ".join(["hypotheses", *self.names]), f"weights {weights}", *blocks_of(self.canon)[component], ""])
+                left = [other for other in self.names if other not in (name, *removed)]
+                for line in lines_of(["weights"], case)[1:]:
+                    if [part.split("=")[0] for part in line[1:]] == left:
+                        found.update({(name, other): Fraction(part.split("=")[1]) for other, part in zip(left, line[1:])})
+        return found
+
+    def pictures(self):
+        figures = [*self.page.all("figure")]
+        self.test.assertEqual(len(figures), len(self.order) + 1)
+        for n, figure in enumerate(figures):
+            removed = self.order[:n]
+            left = tuple(name for name in self.names if name not in removed)
+            weights = re.findall(r"(\S+) has the weight ([0-9/]*[0-9])", next(figure.all("desc")).text())
+            self.test.assertEqual({name: Fraction(w) for name, w in weights}, self.sets.get(left, {}))
+            texts = [it.text() for it in figure.all("text")]
+            self.test.assertLessEqual({f"p {draw.decimal(Fraction(line[-3]))}" for line in self.decided if line[0] in ("step", "kept")}, {*texts})
+            for name, number in zip(removed, range(1, n + 1)):
+                self.test.assertIn(str(number), texts)
+            self.edge_texts(figure, removed, left)
+
+    def edge_texts(self, figure, removed, left):
+        """Compares the limits of the edges that the description names. An edge that is given by its first term is near its limit."""
+        desc = next(figure.all("desc")).text()
+        for component in range(len(blocks_of(self.canon))):
+            wanted = self.edges(component, removed)
+            shown = {pair: Fraction(0) for pair in wanted}
+            for sentence in re.findall(r"(\S+) has the weight [0-9/]+((?: and passes(?: in component \d)? .*?)*)\.(?: |$)", desc):
+                for place, rest in re.findall(r" and passes( in component \d)? (.*?)(?= and passes|$)", sentence[1]):
+                    if int(place[-1:] or 1) == component + 1:
+                        for text, end in re.findall(r"(\S+) to (\S+?)(?=,|$| and)", rest):
+                            shown[sentence[0], end] = text
+            for pair, text in shown.items():
+                if isinstance(text, str):
+                    self.test.assertIn(text, [it.text() for it in figure.all("text")])
+                limit = limit_of(text) if isinstance(text, str) else text
+                if isinstance(text, str) and "≈" in text:
+                    self.test.assertAlmostEqual(float(limit), float(wanted[pair]), 3)
+                else:
+                    self.test.assertEqual(limit, wanted[pair], (pair, text, desc))
+
+
+def limit_of(text):
+    """The value of an edge in a picture with epsilon at 0."""
+    text = text.removeprefix("≈")
+    if found := re.fullmatch(r"\((.*)\)/\((.*)\)", text):
+        return limit_of(found[1]) / limit_of(found[2])
+    terms = re.findall(r"([+−]?)(≈?[0-9./e-]*)(·?ε\S?)?", text)
+    return sum((-1 if sign == "−" else 1) * Fraction(size.removeprefix("≈")) for sign, size, small in terms if size and not small)
+
+
+def compare_page(test, seed, number):
+    """Compares the page of a random case, and returns whether the program decides it."""
+    made = checkers.Made(random.Random(f"{seed}/page/{number}"), number, 5)
+    status, canon = ask(["canon", *made.words()], made.bytes().decode())
+    if status or any(ask([command], canon)[0] for command in ("test", "weights", "bounds")):
+        return False
+    compared = Compared(test, canon)
+    compared.decision()
+    compared.all_sets()
+    compared.best()
+    compared.pictures()
+    return True
+
+
+@unittest.skipUnless(os.access(test_tools.PROGRAM, os.X_OK), "the program isn't built")
+class Program(Pages):
+    def test_random_pages(self):
+        """Whether each number on the pages of some random cases is the program's."""
+        self.assertGreater(sum(compare_page(self, "gate", number) for number in range(12)), 8)
+
+    def test_examples(self):
+        """Whether each example has a page: of its decision, or of its refusal."""
+        for name in sorted(os.listdir(os.path.join(TOP, "examples"))):
+            if name not in ("README.md", "study-looks.txt"):
+                words = {".csv": ["--form", "csv", "--alpha", "0.025"], ".json": ["--form", "json"]}.get(os.path.splitext(name)[1], [])
+                path = os.path.join(TOP, "examples", name)
+                done = subprocess.run([sys.executable, os.path.join(TOOLS, "report.py"), path, *words], capture_output=True, text=True, encoding="utf-8")
+                with self.subTest(name):
+                    self.assertEqual((done.returncode, done.stderr), (5 if name == "too-wide.txt" else 0, ""))
+                    self.check_form(done.stdout)
+
+
+def main():
+    parser = argparse.ArgumentParser(description=__doc__, formatter_class=argparse.RawDescriptionHelpFormatter)
+    parser.add_argument("--pages", type=int)
+    parser.add_argument("--seed", default="1")
+    words, rest = parser.parse_known_args()
+    if words.pages is None:
+        unittest.main(argv=[sys.argv[0], *rest])
+    done = number = 0
+    while done < words.pages:
+        done += compare_page(unittest.TestCase(), words.seed, number)
+        number += 1
+    print(f"{done} pages of {number} cases: each number is the program's")
+
+
+if __name__ == "__main__":
+    main()
