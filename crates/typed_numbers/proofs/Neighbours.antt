@@ -37,7 +37,7 @@ all_wide r a b c d u hb hd e below above m p hp k =
     (apart r.ends (a * p) (m * b) r.scale b p u hb hp (omega arith))
     (apart r.ends (m * d) (c * p) r.scale d p u hd hp (omega arith))
 
--- A run to the right of a / b: k steps toward c / d, as many as stay below low / scale.
+-- A run to the right of a / b: k steps toward c / d, all that stay below low / scale.
 pub run_below : (scale low ends a b c d k : ℕ) → a * scale + ends ≤ low * b → low * d ≤ c * scale
     → k ≤ (low * b - a * scale - ends) / (c * scale - low * d)
     → (a + k * c) * scale + ends ≤ low * (b + k * d)
@@ -48,7 +48,7 @@ run_below scale low ends a b c d k below order most =
     let e : k * (x + low * d) ≡ k * (c * scale) = ap (λ z. k * z) (omega arith) in
     omega arith
 
--- A run to the left of c / d: k steps toward a / b, as many as stay above high / scale.
+-- A run to the left of c / d: k steps toward a / b, all that stay above high / scale.
 pub run_above : (scale high ends a b c d k : ℕ) → high * d + ends ≤ c * scale → a * scale ≤ high * b
     → k ≤ (c * scale - high * d - ends) / (high * b - a * scale)
     → high * (d + k * b) + ends ≤ (c + k * a) * scale
@@ -63,15 +63,15 @@ run_above scale high ends a b c d k above order most =
 pub some_step : (x y : ℕ) → 0 < x → x ≤ y → 0 < y / x
 some_step x y hx h = le-div 1 y x hx (omega arith)
 
-pub few : (k d l : ℕ) → k ≤ l → d ≤ l → l ≤ 10000 → k * d ≤ 100000000
+pub few : (k d l : ℕ) → k ≤ l → d ≤ l → l ≤ 16384 → k * d ≤ 268435456
 few k d l hk hd hl =
-    let f = mul-le-mul_left {m = k} {n = 10000} d (omega arith) in
+    let f = mul-le-mul_left {m = k} {n = 16384} d (omega arith) in
     omega arith
 
--- a product of a number up to 10,000 and one up to 2 ^ 70
-pub product_short : (n s : ℕ) → n ≤ 10000 → s ≤ 1180591620717411303424 → n * s ≤ 11805916207174113034240000
+-- a product of a number up to 2 ^ 14 and one up to 2 ^ 70
+pub product_short : (n s : ℕ) → n ≤ 16384 → s ≤ 1180591620717411303424 → n * s ≤ 19342813113834066795298816
 product_short n s hn hs =
-    let f = mul-le-mul_left {m = n} {n = 10000} s hn in
+    let f = mul-le-mul_left {m = n} {n = 16384} s hn in
     omega arith
 
 -- what is above the upper end is above the lower one

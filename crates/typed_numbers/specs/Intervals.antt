@@ -40,7 +40,8 @@ abbrev pub shift_by : ℕ → ℕ
 shift_by zero = 0
 shift_by (suc e) = e
 
--- The fractions that round to the double m * 2 ^ s / 2 ^ 1074: from m - 1/2 (or m - 1/4) to m + 1/2, with the ends if m is even.
+-- The fractions that round to the double m * 2 ^ s / 2 ^ 1074. They go from half a last place below it, or a quarter, to half a last place above it,
+-- and the ends belong to them if m is even.
 abbrev pub range_by : ℕ → ℕ → Range
 range_by e digits = record {
   scale = 4 * 2 ^ 1074;

@@ -20,7 +20,7 @@ HasNoSimple bits = (m p : ℕ) → 0 < p → RoundsTo bits m p → 10000 < p
 
 -- ---- the shortest decimal
 
--- Of the multiples of 1 / q that round to the double, n / q is the nearest to it, and of two that are equally near the one with the even n.
+-- Of the multiples of 1 / q that round to the double, n / q is the nearest to it. Of two that are equally near it is the one with the even n.
 pub record IsNearest (bits n q : ℕ) : Type 0 where
   pub rounds : RoundsTo bits n q
   pub nearest : (m : ℕ) → RoundsTo bits m q → distance bits n q ≤ distance bits m q

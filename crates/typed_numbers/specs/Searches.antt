@@ -26,6 +26,10 @@ pub record IsIntervalBy (e digits places low middle high ends : ℕ) : Type 0 wh
 abbrev pub IsIntervalOf : ℕ → ℕ → ℕ → ℕ → ℕ → ℕ → Type 0
 IsIntervalOf bits = IsIntervalBy (exponent_of bits) (digits_of bits)
 
+-- as an interval of fractions
+abbrev pub in_quarters : ℕ → ℕ → ℕ → ℕ → Range
+in_quarters places low high ends = record { scale = 2 ^ places; low = low; high = high; ends = ends }
+
 -- ---- the simplest fraction
 
 -- n / q has the least denominator of the fractions in the interval, at most `limit`.

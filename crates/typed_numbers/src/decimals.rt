@@ -1,6 +1,7 @@
 //! The shortest decimal in an interval, and the double rounded up.
 ghost use Rattle.std.specs.Prelude.{◌≡◌, ◌+◌, ◌-◌, ◌*◌, ◌%◌, ◌<◌, ◌≤◌, ◌^◌, ℕ, IfSome, None};
-ghost use Rattle.typed_numbers.specs.Searches.{IsWithin, IsNearestIn, IsDecimalIn, IsNearestDecimal, IsShortestIn, HasNoDecimalIn, IsLeastAbove};
+ghost use Rattle.typed_numbers.specs.Searches.{IsWithin, IsNearestIn, IsDecimalIn, IsNearestDecimal, IsShortestIn};
+ghost use Rattle.typed_numbers.specs.Searches.{HasNoDecimalIn, IsLeastAbove};
 
 use crate::intervals::Interval;
 

@@ -1,5 +1,6 @@
 //! Laws of readings.
-ghost use Rattle.typed_numbers.specs.Promises.{IntervalsAreWhatRounds, ReadingsAreUnique, ReadingsAreNear, ReadingsAreShortUnits, ReadableAreFromZeroToOne};
+ghost use Rattle.typed_numbers.specs.Promises.{IntervalsAreWhatRounds, ReadingsAreUnique, ReadingsAreNear};
+ghost use Rattle.typed_numbers.specs.Promises.{ReadingsAreShortUnits, ReadableAreFromZeroToOne};
 ghost use Rattle.typed_numbers.specs.Readings.{ReadingsAreByTheRules};
 
 /// A fraction is in the interval of a double exactly if it rounds to it.

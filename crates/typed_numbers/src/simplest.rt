@@ -1,7 +1,7 @@
 //! The simplest fraction in an interval.
 ghost use Rattle.std.specs.Prelude.{◌≡◌, ◌+◌, ◌*◌, ◌<◌, ◌≤◌, ◌^◌, IfSome, None};
 ghost use Rattle.typed_numbers.specs.Intervals.{Range};
-ghost use Rattle.typed_numbers.specs.Searches.{IsSimplestIn, HasNoneIn};
+ghost use Rattle.typed_numbers.specs.Searches.{in_quarters, IsSimplestIn, HasNoneIn};
 
 use crate::intervals::Interval;
 
@@ -25,7 +25,7 @@ fn simplest_between(
     requires order { low < high }
     requires below_one { high + ends ≤ scale }
     requires scale { scale ≤ 2 ^ 70 }
-    requires limit { limit ≤ 10000 }
+    requires limit { limit ≤ 16384 }
     ensures found { IfSome result (λ f. IsSimplestIn (record { scale = scale; low = low; high = high; ends = ends }) limit f.0 f.1) }
     ensures none { result ≡ None → HasNoneIn (record { scale = scale; low = low; high = high; ends = ends }) limit }
 {
@@ -55,8 +55,8 @@ fn simplest_between(
 
 /// Returns the fraction of the least denominator in the interval of a double, or nothing if that passes 10,000.
 pub fn simplest(x: Interval) -> Option<(u128, u128)>
-    ensures found { IfSome result (λ f. IsSimplestIn (record { scale = 2 ^ x.places; low = x.low; high = x.high; ends = x.ends }) 10000 f.0 f.1) }
-    ensures none { result ≡ None → HasNoneIn (record { scale = 2 ^ x.places; low = x.low; high = x.high; ends = x.ends }) 10000 }
+    ensures found { IfSome result (λ f. IsSimplestIn (in_quarters x.places x.low x.high x.ends) 10000 f.0 f.1) }
+    ensures none { result ≡ None → HasNoneIn (in_quarters x.places x.low x.high x.ends) 10000 }
 {
     if x.places > MOST_PLACES {
         return None;

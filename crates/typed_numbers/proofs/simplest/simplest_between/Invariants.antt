@@ -8,8 +8,8 @@ invariant-loop-b l = record {
   d_some : 0 < l.d;
   a_short : l.a ≤ l.b;
   c_short : l.c ≤ l.d;
-  b_short : l.b ≤ 200000000;
-  d_short : l.d ≤ 200000000;
+  b_short : l.b ≤ 536870912;
+  d_short : l.d ≤ 536870912;
   unit : l.c * l.b ≡ l.a * l.d + 1;
   below : l.a * l.scale + l.ends ≤ l.low * l.b;
   above : l.high * l.d + l.ends ≤ l.c * l.scale;
