@@ -19,6 +19,7 @@ on, `Goals`, `Answers` and `Proof` what has to be proved and the search for it, 
 import argparse
 import collections
 import pathlib
+import signal
 
 CRATES = pathlib.Path(__file__).resolve().parent.parent / "crates"
 DERIVED = {"Debug": "derived Debug", "PartialEq": "derived Eq, Ord", "Eq": "derived Eq, Ord", "PartialOrd": "derived Eq, Ord", "Ord": "derived Eq, Ord"}
@@ -71,6 +72,8 @@ def show(title, seconds, lines=None):
 
 
 def main():
+    # `| head` ends the script without a word
+    signal.signal(signal.SIGPIPE, signal.SIG_DFL)
     options = argparse.ArgumentParser(description=__doc__, formatter_class=argparse.RawDescriptionHelpFormatter)
     options.add_argument("crate")
     options.add_argument("--newer", metavar="FILE", help="leaves out modules that are not newer than this file")

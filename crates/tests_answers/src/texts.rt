@@ -279,7 +279,7 @@ fn case(alloc: Global, row: &Row) -> Result<Case, Fail> {
     let draft = draft(alloc, names, alpha, p, weights)?;
     match draft.finish(alloc) {
         Ok(case) => Ok(case),
-        Err(refused) => Err(refused.fault)?,
+        Err(_) => Err("the draft is refused")?,
     }
 }
 
