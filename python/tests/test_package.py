@@ -1,6 +1,5 @@
 """Tests of the package: its version, its names, and that it asks for nothing but Python."""
 import os
-import re
 import subprocess
 import sys
 import unittest
@@ -8,20 +7,17 @@ import unittest
 import places
 import welungad
 
+VERSION = os.path.join(places.TOP, "VERSION")
 PACKAGE = os.path.dirname(os.path.abspath(welungad.__file__))
 
 
 class Package(unittest.TestCase):
     """Whether the package is as its users expect one."""
 
+    @unittest.skipUnless(os.path.isfile(VERSION), f"{VERSION} is missing")
     def test_the_version_is_that_of_the_release(self):
-        found = {}
-        for path, pattern in [("VERSION", r"^(\S+)$"), (os.path.join("r", "DESCRIPTION"), r"^Version: (\S+)$")]:
-            whole = os.path.join(places.TOP, path)
-            if os.path.isfile(whole):
-                with open(whole, encoding="utf-8") as file:
-                    found[path] = re.search(pattern, file.read(), re.M)[1]
-        self.assertEqual(found, dict.fromkeys(found, welungad.__version__))
+        with open(VERSION, encoding="ascii") as file:
+            self.assertEqual(file.read().strip(), welungad.__version__)
 
     def test_its_names(self):
         self.assertEqual(sorted(welungad.__all__), welungad.__all__)

@@ -29,7 +29,7 @@ from ._results import (Adjusted, Answer, Arrival, Bounds, Checked, Component, De
                        Quotient, RefusedLook, Settled, Shown, Simes, Stages, Step, Tested, Trials, Weights)
 from ._study import Study
 
-__version__ = "0.1.0"
+__version__ = "0.2.0"
 
 __all__ = [
     "Adjusted", "Answer", "Arrival", "BadAnswer", "BesideWarning", "Bounds", "Checked", "Component", "DONE", "Decision", "Evidence", "Flow", "Given",
