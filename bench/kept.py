@@ -95,5 +95,5 @@ def main():
 
 try:
     main()
-except (AttributeError, OSError, TypeError, Unknown) as why:
+except Exception as why:  # another kit may fail in any way
     print(f"the libraries of rt ci are not used again: {why}")

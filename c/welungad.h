@@ -13,9 +13,10 @@
  *
  * Threads. Calls may run at the same time in different threads, each with an out and a needed of its own.
  *
- * Time. A call that has begun cannot be stopped, so make it in a thread of its own if somebody waits. test takes milliseconds.
- * weights, bounds and simes of 16 hypotheses take half a second, and about 3 seconds if edges have an epsilon; more for several
- * graphs. A case is limited to 64 hypotheses, 8 graphs and 4 MiB; for weights, bounds and simes to 16 hypotheses. */
+ * Time. A call that has begun cannot be stopped, so make it in a thread of its own if somebody waits. weights, bounds and simes take
+ * longest: on 16 hypotheses half a second, about 3 seconds if edges have an epsilon, and half a minute for 8 such graphs. On 64
+ * hypotheses in 8 graphs, test takes about half a second and evidence about 3. A case is limited to 64 hypotheses, 8 graphs and
+ * 4 MiB; for weights, bounds and simes to 16 hypotheses. */
 #ifndef WELUNGAD_H
 #define WELUNGAD_H
 

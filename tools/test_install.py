@@ -729,8 +729,11 @@ class Configure(Room):
             return done, file.read()
 
     def test_without(self):
-        """Whether the package calls the program if no variable is set."""
+        """Whether the package calls the program if no variable is set, and nothing stays that was compiled with the library."""
+        for name in ("r/src/a.o", "r/src/a.so"):
+            self.write(name, "compiled with the library")
         self.assertEqual(self.configure(), ((0, "welungad: without the C library; calls run the program\n", ""), ""))
+        self.assertEqual(sorted(os.listdir(os.path.join(self.top, "r", "src"))), ["Makevars", "a.c"])
 
     def test_with(self):
         """Whether the library of a checkout and that of an installation is linked, also by a path from where R was started."""
