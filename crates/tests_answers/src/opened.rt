@@ -6,6 +6,7 @@ use field_core::{List, NoMemory};
 use graph_io::{Look, MemoryKeeper, MemorySink, MemorySource};
 use program::{OpenFault, Opener, run_program};
 use std::alloc::Global;
+use std::process::ExitCode;
 
 /// One file and one store, whatever their paths, and a line for each thing that was requested.
 #[derive(Drop)]
@@ -47,6 +48,10 @@ impl Opener for Shelf {
     ghost may_refuse = { λ _ _. ⊤ };
 
     ghost looks_at = { λ s _. Some s.looks };
+
+    ghost is_file_at = { λ _ _ _. ⊤ };
+
+    ghost is_store_at = { λ _ _ _. ⊤ };
 
     fn open_file(&mut self, path: &str) -> Result<MemorySource, OpenFault> {
         if note(&mut self.asked, b"file ", path).is_err() {
@@ -110,14 +115,21 @@ fn shelf_of(alloc: Global, row: &Row) -> Option<Shelf> {
     })
 }
 
+/// Whether an exit code is that of a status, by what both print, since codes have no equality; nothing when out of memory.
+fn has_status(alloc: Global, code: ExitCode, status: u8) -> Option<bool> {
+    let ended = format!(in alloc; "{code:?}").ok()?;
+    let wanted = format!(in alloc; "{:?}", ExitCode::from(status)).ok()?;
+    Some(ended.as_str() == wanted.as_str())
+}
+
 /// Whether a call does what its row says, unless out of memory.
 fn is_done(alloc: Global, row: &Row) -> Option<bool> {
     let words = words_of(alloc, row.words)?;
     let mut shelf = shelf_of(alloc, row)?;
     let mut case = MemorySource::new(copy_of(alloc, row.case).ok()?);
     let mut out = MemorySink::with_room(alloc, 4096).ok()?;
-    let status = run_program(alloc, words.as_slice(), &mut shelf, &mut case, &mut out);
-    let is_told = status == row.status && out.held() == row.text;
+    let code = run_program(alloc, words.as_slice(), &mut shelf, &mut case, &mut out);
+    let is_told = has_status(alloc, code, row.status)? && out.held() == row.text;
     let is_asked = shelf.asked.as_slice() == row.asked;
     Some(is_told && is_asked && shelf.looks.len() == row.looks)
 }
@@ -184,6 +196,21 @@ fn a_file_that_is_refused_is_a_read_fault(rt: HostRuntime) {
         status: 6,
         text: b"read fault\n",
         asked: b"file proof.txt\n",
+        looks: 0,
+    };
+    assert!(rt; is_done(rt.alloc(), &row) == Some(true));
+}
+
+/// Whether commands that can't be opened are reported as a fault of the reading, and no look is kept.
+#[test]
+fn commands_that_are_refused_are_a_read_fault(rt: HostRuntime) {
+    let row = Row {
+        words: &["study", "commands.txt", "--store", "looks.db"],
+        case: CASE,
+        file: None,
+        status: 6,
+        text: b"read fault\n",
+        asked: b"file commands.txt\nstore looks.db\nclose looks.db\n",
         looks: 0,
     };
     assert!(rt; is_done(rt.alloc(), &row) == Some(true));

@@ -1,11 +1,12 @@
 //! The files that the words name, opened.
+use crate::file_at::FileAt;
 use field_core::NoMemory;
 use graph_io::StdSource;
 use program::{OpenFault, Opener};
-use std::{fs, io};
+use std::io;
 use study_sqlite::SqliteKeeper;
 
-/// Opens files at paths. Contracts know nothing of what they hold.
+/// Opens files at paths. Contracts know at which, and nothing of what they hold.
 #[derive(Drop)]
 pub struct FileOpener {
     rt: HostRuntime,
@@ -19,9 +20,12 @@ impl FileOpener {
 }
 
 impl Opener for FileOpener {
-    ghost use Rattle.std.specs.Prelude.{⊤, None};
+    ghost use Rattle.std.specs.Prelude.{◌≡◌, ⊤, None, string_bytes};
+    ghost use Rattle.graph_io.specs.Adapters.{reader_of};
+    ghost use Rattle.study_sqlite.specs.Storing.{storage_of};
+    ghost use Rattle.welungad_main.specs.Files.{path_of, IsUnopenedAt};
 
-    type File = StdSource<fs::File>;
+    type File = StdSource<FileAt>;
 
     type Store = SqliteKeeper;
 
@@ -33,15 +37,23 @@ impl Opener for FileOpener {
 
     ghost looks_at = { λ _ _. None };
 
-    fn open_file(&mut self, path: &str) -> Result<StdSource<fs::File>, OpenFault> {
-        match fs::open(&self.rt, path) {
+    ghost is_file_at = { λ _ path file. path_of (reader_of file) ≡ path };
+
+    ghost is_store_at = { λ _ path store. IsUnopenedAt path (storage_of store) };
+
+    fn open_file(&mut self, path: &str) -> Result<StdSource<FileAt>, OpenFault> {
+        let path = match String::from_str(self.rt.alloc(), path) {
+            Ok(path) => path,
+            Err(_) => return Err(OpenFault::NoMemory),
+        };
+        match FileAt::open(&self.rt, path) {
             Ok(file) => Ok(StdSource::new(file)),
             Err(error) if error.kind() == io::ErrorKind::OutOfMemory => Err(OpenFault::NoMemory),
             Err(_) => Err(OpenFault::Refused),
         }
     }
 
-    fn close_file(&mut self, _path: &str, _file: StdSource<fs::File>) {}
+    fn close_file(&mut self, _path: &str, _file: StdSource<FileAt>) {}
 
     /// The file is opened when looks are first requested.
     fn open_store(&mut self, path: &str) -> Result<SqliteKeeper, NoMemory> {
