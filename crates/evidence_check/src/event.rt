@@ -3,7 +3,7 @@ use crate::Reason;
 use field_core::WideAt;
 
 /// What ends the check of a step or of a keep.
-#[derive(Clone, Copy, PartialEq, Eq, Debug)]
+#[derive(Clone, Copy)]
 pub enum CheckEvent {
     /// A condition is broken.
     Broken(Reason),
@@ -12,7 +12,7 @@ pub enum CheckEvent {
 }
 
 /// What ends a check, and the step or keep at which it does.
-#[derive(Clone, Copy, PartialEq, Eq, Debug)]
+#[derive(Clone, Copy)]
 pub struct CheckEventAt {
     pub number: usize,
     pub event: CheckEvent,

@@ -24,7 +24,7 @@ pub enum ProofKind {
 }
 
 /// Why a text denotes no evidence.
-#[derive(Clone, Copy, PartialEq, Eq, Debug)]
+#[derive(Clone, Copy, Debug)]
 pub enum ProofText {
     /// The number of the first line that isn't allowed at its place, from 1, and what is wrong with it. If the document ends
     /// too early it is the number of lines plus 1.

@@ -14,7 +14,7 @@ ghost use Rattle.evidence_check.specs.CaseCheck.{IsSingle, p_values_of, loaded_c
 ghost use Rattle.evidence_check.specs.NumberReading.{constant_fraction, number_in_text};
 
 use crate::event::CheckEvent;
-use crate::sums::{all_below, placed};
+use crate::sums::placed;
 use case_model::{Case, Inputs};
 use case_numbers::CaseNumber;
 use eps_quotient::EpsQuotient;
@@ -117,28 +117,37 @@ fn load_edge<F: CaseNumber>(case: &Case, c: usize, l: usize, k: usize) -> Result
 }
 
 /// Refuses the first edge from `l` in a component that cannot be loaded.
-#[tactic(auto, unfolding(crate::specs::CaseCheck::row_load))]
+#[tactic(auto, unfolding(crate::specs::CaseCheck::row_load), using(crate::proofs::AllSteps::all_none, crate::proofs::AllSteps::all_next, crate::proofs::AllSteps::all_refused))]
 fn load_row<F: CaseNumber>(case: &Case, c: usize, l: usize) -> Result<(), CheckEvent>
     requires c { c < length (content case.now).components }
     requires l { l < length (content case.now).names }
     ensures { result ≡ row_load F.numbers (content case.now) c l }
 {
-    all_below(case.size(), |k| load_edge::<F>(case, c, l, k))
+    for k in 0..case.size() {
+        load_edge::<F>(case, c, l, k)?;
+    }
+    Ok(())
 }
 
 /// Refuses the first edge of a component that cannot be loaded.
-#[tactic(auto, unfolding(crate::specs::CaseCheck::component_load))]
+#[tactic(auto, unfolding(crate::specs::CaseCheck::component_load), using(crate::proofs::AllSteps::all_none, crate::proofs::AllSteps::all_next, crate::proofs::AllSteps::all_refused))]
 fn load_component<F: CaseNumber>(case: &Case, c: usize) -> Result<(), CheckEvent>
     requires c { c < length (content case.now).components }
     ensures { result ≡ component_load F.numbers (content case.now) c }
 {
-    all_below(case.size(), |l| load_row::<F>(case, c, l))
+    for l in 0..case.size() {
+        load_row::<F>(case, c, l)?;
+    }
+    Ok(())
 }
 
 /// Refuses the first edge that cannot be loaded.
-#[tactic(auto, unfolding(crate::specs::CaseCheck::all_loads))]
+#[tactic(auto, unfolding(crate::specs::CaseCheck::all_loads), using(crate::proofs::AllSteps::all_none, crate::proofs::AllSteps::all_next, crate::proofs::AllSteps::all_refused))]
 pub fn load<F: CaseNumber>(case: &Case) -> Result<(), CheckEvent>
     ensures { result ≡ all_loads F.numbers (content case.now) }
 {
-    all_below(case.components(), |c| load_component::<F>(case, c))
+    for c in 0..case.components() {
+        load_component::<F>(case, c)?;
+    }
+    Ok(())
 }

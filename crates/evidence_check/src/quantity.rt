@@ -5,7 +5,7 @@ ghost use Rattle.evidence_check.specs.Documents.{keyword, place_fault};
 use crate::ProofKind;
 
 /// What the numbers of evidence are: those after it a step, or those after it a keep.
-#[derive(Clone, Copy, PartialEq, Eq, Debug)]
+#[derive(Clone, Copy)]
 pub enum Quantity {
     Flow,
     Exit,

@@ -2,7 +2,7 @@
 use field_core::WideAt;
 
 /// Why evidence doesn't meet its conditions. The numbers are the component and the step, both from 0.
-#[derive(Clone, Copy, PartialEq, Eq, Debug)]
+#[derive(Clone, Copy, PartialEq, Eq)]
 pub enum Reason {
     /// The hypothesis of the step is that of an earlier one.
     Repeated,
@@ -25,7 +25,7 @@ pub enum Reason {
 }
 
 /// What a check says.
-#[derive(Clone, Copy, PartialEq, Eq, Debug)]
+#[derive(Clone, Copy, PartialEq, Eq)]
 pub enum Verdict {
     /// The evidence meets its conditions.
     Yes,
@@ -34,7 +34,7 @@ pub enum Verdict {
 }
 
 /// The first written sum of a check that is undefined, at this step or keep, counted from 1; step 0 is the loading.
-#[derive(Clone, Copy, PartialEq, Eq, Debug)]
+#[derive(Clone, Copy, PartialEq, Eq)]
 pub struct CheckWide {
     pub step: usize,
     pub at: WideAt,
