@@ -58,13 +58,13 @@ make_environment() {
     "$room/venv/bin/python" -c 'import setuptools; assert int(setuptools.__version__.split(".")[0]) >= 61' 2>/dev/null
 }
 
-# Installs the package from a folder into a fresh environment, and runs a copy of the tests there.
+# Installs the package from a folder into a fresh environment, and runs a copy of the tests there, with a program.
 try_installed() {
     rm -rf -- "$room/tests"
     make_environment
     "$room/venv/bin/python" -m pip install --quiet --no-index --no-build-isolation --disable-pip-version-check "$1"
     cp -R -- "$here/tests" "$room/tests"
-    (cd -- "$room" && WELUNGAD_TOP=$top WELUNGAD_INSTALLED=$room/venv run_tests "$room/venv/bin/python")
+    (cd -- "$room" && WELUNGAD=$2 WELUNGAD_TOP=$top WELUNGAD_INSTALLED=$room/venv run_tests "$room/venv/bin/python")
 }
 
 # in the checkout
@@ -74,16 +74,16 @@ python=${python:-$any}
 cd -- "$here"
 "$python" -m compileall -q welungad tests backend.py
 run_tests "$python"
-"$python" -c 'from welungad import _program; _program.program_path()' 2>/dev/null ||
+program=$("$python" -c 'from welungad import _program; print(_program.program_path())' 2>/dev/null) ||
     note 'the program welungad, without which studies are not tested'
 
 # in environments of its own
 if ! make_environment; then
     note 'venv with setuptools 61 or later, without which the package is not installed'
 else
-    try_installed "$here"
+    try_installed "$here" "$program"
     if "$top/install" "$room/prefix" >"$room/said" 2>&1; then
-        try_installed "$room/prefix/share/welungad/python"
+        try_installed "$room/prefix/share/welungad/python" "$room/prefix/bin/welungad"
     else
         note "an installation, from which the package is not installed ($(tail -n 1 "$room/said"))"
     fi

@@ -64,15 +64,15 @@ def _small_fraction(double: float) -> Optional[Fraction]:
     return None
 
 
-def _interval(double: float) -> Tuple[int, int, int, bool, int]:
-    """Returns a double above 0 and the ends of its rounding interval, as low, double and high; whether the ends belong to it; and
-    the power of 2 that all three are divided by."""
+def _interval(double: float) -> Tuple[int, int, int, int]:
+    """Returns a double above 0 and the ends of its rounding interval, as low, double and high, and the power of 2 that all three
+    are divided by. Whether the ends belong to it decides nothing: the denominator of an end is 2^54 or a greater power."""
     (bits,) = struct.unpack(">Q", struct.pack(">d", double))
     exponent, digits = bits >> 52, bits & (2**52 - 1)
     mantissa = digits + (2**52 if exponent else 0)
     # In quarters of the last place. Below a power of 2 the doubles are twice as dense.
     below = 1 if digits == 0 and exponent > 1 else 2
-    return 4 * mantissa - below, 4 * mantissa, 4 * mantissa + 2, mantissa % 2 == 0, 1077 - max(exponent, 1)
+    return 4 * mantissa - below, 4 * mantissa, 4 * mantissa + 2, 1077 - max(exponent, 1)
 
 
 def _rounded(over: int, power: int) -> int:
@@ -84,11 +84,10 @@ def _rounded(over: int, power: int) -> int:
 
 def _short_decimal(double: float) -> Optional[Fraction]:
     """Returns the decimal in the interval of a double with the fewest places, up to 30: the nearest, of two the even one."""
-    low, middle, high, closed, power = _interval(double)
+    low, middle, high, power = _interval(double)
     for places in range(1, _MOST_PLACES + 1):
         scale = 10**places
-        least = -(-low * scale >> power) if closed else (low * scale >> power) + 1
-        most = high * scale >> power if closed else -(-high * scale >> power) - 1
+        least, most = -(-low * scale >> power), high * scale >> power
         if least <= most:
             return Fraction(min(max(_rounded(middle * scale, power), least), most), scale)
     return None
