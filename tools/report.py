@@ -85,9 +85,9 @@ footer { border-top: 1px solid #999; margin-top: 2.5rem; font-size: .9rem; }
 
 
 def decimal_text(x):
-    """A fraction as a decimal: exactly with at most eight places, else to five digits."""
+    """A fraction of at least 0 as a decimal: exactly with at most eight places, else to five digits."""
     if 10**8 % x.denominator == 0:
-        whole, part = divmod(abs(x.numerator) * (10**8 // x.denominator), 10**8)
+        whole, part = divmod(x.numerator * (10**8 // x.denominator), 10**8)
         return f"= {whole}.{part:08d}".rstrip("0")
     return f"≈ {float(x):.5g}"
 
@@ -350,14 +350,14 @@ def commands(findings, file, words):
         return parts + ["<p>There is no evidence for a staged trial: the same program decides again.</p>"]
     made = ["welungad evidence < case.txt > evidence.txt", "welungad check evidence.txt < case.txt"]
     if findings.evidence:
-        parts.append(f"<p>The program's own evidence ends with status {findings.evidence} here. So the script below makes it, and "
-                     "another one checks it, both without the proved program.</p>")
-        made = ["python3 tools/make_evidence.py case.txt report.txt > evidence.txt"]
+        parts.append(f"<p>The program makes no evidence here: <code>evidence</code> ends with status {findings.evidence}. So a script makes "
+                     "it. The program can often check what the script made; if it refuses that too, the next script alone checks it.</p>")
+        made[0] = "python3 tools/make_evidence.py case.txt report.txt > evidence.txt"
     made.append("python3 tools/check_evidence.py case.txt evidence.txt")
     made += ["python3 tools/closed_test.py case.txt --sets"] if len(findings.names) <= 12 else []
     return [*parts, "<h3>To check it</h3>", "<pre>" + escape("\n".join(made)) + "</pre>",
-            "<p>The scripts share no code with the program. The first one checks the evidence"
-            + (", and the second one decides by the definition, over all intersections.</p>" if len(findings.names) <= 12 else ".</p>")]
+            "<p>The scripts share no code with the program. <code>check_evidence.py</code> checks the evidence"
+            + (", and <code>closed_test.py</code> decides by the definition, over all intersections.</p>" if len(findings.names) <= 12 else ".</p>")]
 
 
 def program_list(program):

@@ -291,7 +291,7 @@ class Pages(unittest.TestCase):
 
     def test_numbers(self):
         """Whether a decimal is exact, or marked as not exact."""
-        for x, wanted in [("1/40", "= 0.025"), ("1/3", "≈ 0.33333"), ("-1/8", "= 0.125"), ("3/2", "= 1.5"), ("1/12345678901", "≈ 8.1e-11"),
+        for x, wanted in [("1/40", "= 0.025"), ("1/3", "≈ 0.33333"), ("1/8", "= 0.125"), ("3/2", "= 1.5"), ("1/12345678901", "≈ 8.1e-11"),
                           ("1/200000000", "≈ 5e-09"), ("1/100000000", "= 0.00000001")]:
             self.assertEqual(report.decimal_text(Fraction(x)), wanted)
 
