@@ -44,6 +44,7 @@ p, li, dd { max-width: 44rem; }
 .wide { overflow-x: auto; margin: 1rem 0; }
 table { border-collapse: separate; border-spacing: 0; font-size: .9rem; }
 caption { text-align: left; font-weight: bold; padding: .3rem 0; }
+caption span { display: inline-block; max-width: calc(100vw - 2.5rem); }
 th, td { border: solid #999; border-width: 0 1px 1px 0; padding: .25rem .5rem; text-align: left; vertical-align: top; }
 thead th { border-top-width: 1px; }
 tr > :first-child { border-left-width: 1px; }
@@ -54,7 +55,7 @@ tr.rejected > th { background: #cfe3cf; }
 .whole { white-space: nowrap; }
 code, pre { font-family: "DejaVu Sans Mono", Menlo, Consolas, monospace; font-size: .85rem; }
 pre { background: #f4f6f8; border: 1px solid #ccc; padding: .6rem; white-space: pre-wrap; overflow-wrap: anywhere; }
-code { overflow-wrap: anywhere; }
+code { overflow-wrap: anywhere; white-space: pre-line; }
 .pictures { display: grid; grid-template-columns: repeat(auto-fit, minmax(min(100%, 24rem), 1fr)); gap: 1rem; padding: 0;
   list-style: none; }
 .pictures.large { grid-template-columns: 1fr; }
@@ -102,7 +103,7 @@ def table(name, caption, head, rows):
     columns = "".join(f'<th scope="col">{cell}</th>' for cell in head)
     lines = [
         f'<div class="wide" role="region" aria-labelledby="{name}" tabindex="0">',
-        f'<table>\n<caption id="{name}">{caption}</caption>',
+        f'<table>\n<caption id="{name}"><span>{caption}</span></caption>',
         f"<thead><tr>{columns}</tr></thead>\n<tbody>",
     ]
     for kind, first, *cells in rows:
