@@ -184,7 +184,7 @@ def decision_table(findings):
     return "\n".join([
         table("decision", "The decision on each hypothesis", head, rows),
         "<p>A level is a weight times the level of the trial. A rejected hypothesis is tested at the weight that it has just before its "
-        "rejection, another one at the weight that it has at the end. The adjusted p-value is the least level of the trial at which "
+        "rejection, and one that is not rejected at its last weight. The adjusted p-value is the least level of the trial at which "
         "the hypothesis is rejected; it is above 1 if no level up to 1 rejects it.</p>",
     ])
 
