@@ -4,18 +4,24 @@
     bench/carry.py [--graphs N] [--seed S] [--sizes N,N,..] [--kinds WORD,WORD,..] [--program PATH]
 
 A number of the program has parts below 2^127 and a degree in epsilon of at most 32. Each graph has weights of 1 over the number of
-hypotheses, and all p-values are 0, so that everything is rejected and each number of the run is written. Prints a table in Markdown:
-a row for each kind, a column for each size, and in each cell how many graphs of N (20) `test` refuses, a slash, and how many
-`evidence` refuses. Ends with status 1 if the program ends with another status than 0 or 5.
+hypotheses, and all p-values are 0, so that everything is rejected and each number of the run is written. Prints a table in Markdown
+with a row for each kind and a column for each size. A cell has three numbers with slashes between: of N (20) graphs, how many `test`
+refuses, how many `evidence` refuses, and for how many of the latter `check` also refuses what tools/make_evidence.py makes; in graphs
+of more than 16 hypotheses with epsilon this is not tried. Ends with status 1 if the program ends with another status than 0 or 5.
 """
 import argparse
 import os
 import random
 import subprocess
 import sys
+import tempfile
 from fractions import Fraction
 
-PROGRAM = os.path.join(os.path.dirname(os.path.abspath(__file__)), "..", "crates", "welungad", "out", "welungad")
+HERE = os.path.dirname(os.path.abspath(__file__))
+sys.path.insert(0, os.path.join(HERE, "..", "tools"))
+import make_evidence  # noqa: E402
+
+PROGRAM = os.path.join(HERE, "..", "crates", "welungad", "out", "welungad")
 DONE, TOO_WIDE = 0, 5
 
 
@@ -98,20 +104,31 @@ def case_of(edges, size):
 
 
 def is_too_wide(program, command, case):
-    done = subprocess.run([program, command], input=case.encode(), stdout=subprocess.PIPE, check=False, timeout=600)
+    done = subprocess.run([program, *command], input=case.encode(), stdout=subprocess.PIPE, check=False, timeout=600)
     if done.returncode not in (DONE, TOO_WIDE):
-        sys.exit(f"carry.py: {command} ended with status {done.returncode}: {done.stdout[:200].decode()}\n{case}")
+        sys.exit(f"carry.py: {command[0]} ended with status {done.returncode}: {done.stdout[:200].decode()}\n{case}")
     return done.returncode == TOO_WIDE
 
 
+def is_unchecked(program, case):
+    """Whether `check` refuses the evidence of tools/make_evidence.py as too wide."""
+    with tempfile.NamedTemporaryFile("w", suffix=".txt") as file:
+        file.write("\n".join([*make_evidence.evidence(make_evidence.Case(case)), ""]))
+        file.flush()
+        return is_too_wide(program, ["check", file.name], case)
+
+
 def cell(words, kind, size):
-    """How many graphs of a kind and a size are refused by `test`, and by `evidence`."""
-    counts = [0, 0]
+    """How many graphs of a kind and a size are refused, by each command."""
+    counts, is_tried = [0, 0, 0], True
     for n in range(words.graphs):
         case = case_of(KINDS[kind][1](random.Random(f"{words.seed}/{kind}/{size}/{n}"), size), size)
-        for at, command in enumerate(("test", "evidence")):
-            counts[at] += is_too_wide(words.program, command, case)
-    return "{}/{}".format(*counts)
+        counts[0] += is_too_wide(words.program, ["test"], case)
+        if is_too_wide(words.program, ["evidence"], case):
+            counts[1] += 1
+            is_tried = size <= 16 or "epsilon" not in case
+            counts[2] += is_tried and is_unchecked(words.program, case)
+    return "/".join(map(str, counts if is_tried else counts[:2]))
 
 
 def main():

@@ -87,6 +87,9 @@ class Findings:
         if self.is_staged:
             self.decision = read_stages(self.ask(["stages"], self.canonical), self.names)
             self.order = [rejection.name for look in self.decision.looks for rejection in look.rejections]
+            arrived = [(words[1], int(words[2]), Fraction(words[3])) for words in self.staging if words[0] == "arrive"]
+            if [(look.name, look.stage, look.p) for look in self.decision.looks] != arrived:
+                raise NotAReport("the report of stages has other looks than the case")
         else:
             self.decision = read_test(self.ask(["test"], self.canonical), self.names)
             self.order = [step.name for step in self.decision.steps]

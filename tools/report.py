@@ -44,6 +44,7 @@ p, li, dd { max-width: 44rem; }
 .wide { overflow-x: auto; margin: 1rem 0; }
 table { border-collapse: separate; border-spacing: 0; font-size: .9rem; }
 caption { text-align: left; font-weight: bold; padding: .3rem 0; }
+caption span { display: inline-block; max-width: calc(100vw - 2.5rem); }
 th, td { border: solid #999; border-width: 0 1px 1px 0; padding: .25rem .5rem; text-align: left; vertical-align: top; }
 thead th { border-top-width: 1px; }
 tr > :first-child { border-left-width: 1px; }
@@ -54,7 +55,7 @@ tr.rejected > th { background: #cfe3cf; }
 .whole { white-space: nowrap; }
 code, pre { font-family: "DejaVu Sans Mono", Menlo, Consolas, monospace; font-size: .85rem; }
 pre { background: #f4f6f8; border: 1px solid #ccc; padding: .6rem; white-space: pre-wrap; overflow-wrap: anywhere; }
-code { overflow-wrap: anywhere; }
+code { overflow-wrap: anywhere; white-space: pre-line; }
 .pictures { display: grid; grid-template-columns: repeat(auto-fit, minmax(min(100%, 24rem), 1fr)); gap: 1rem; padding: 0;
   list-style: none; }
 .pictures.large { grid-template-columns: 1fr; }
@@ -85,9 +86,9 @@ footer { border-top: 1px solid #999; margin-top: 2.5rem; font-size: .9rem; }
 
 
 def decimal_text(x):
-    """A fraction as a decimal: exactly with at most eight places, else to five digits."""
+    """A fraction of at least 0 as a decimal: exactly with at most eight places, else to five digits."""
     if 10**8 % x.denominator == 0:
-        whole, part = divmod(abs(x.numerator) * (10**8 // x.denominator), 10**8)
+        whole, part = divmod(x.numerator * (10**8 // x.denominator), 10**8)
         return f"= {whole}.{part:08d}".rstrip("0")
     return f"≈ {float(x):.5g}"
 
@@ -102,7 +103,7 @@ def table(name, caption, head, rows):
     columns = "".join(f'<th scope="col">{cell}</th>' for cell in head)
     lines = [
         f'<div class="wide" role="region" aria-labelledby="{name}" tabindex="0">',
-        f'<table>\n<caption id="{name}">{caption}</caption>',
+        f'<table>\n<caption id="{name}"><span>{caption}</span></caption>',
         f"<thead><tr>{columns}</tr></thead>\n<tbody>",
     ]
     for kind, first, *cells in rows:
@@ -183,7 +184,7 @@ def decision_table(findings):
     return "\n".join([
         table("decision", "The decision on each hypothesis", head, rows),
         "<p>A level is a weight times the level of the trial. A rejected hypothesis is tested at the weight that it has just before its "
-        "rejection, another one at the weight that it has at the end. The adjusted p-value is the least level of the trial at which "
+        "rejection, and one that is not rejected at its last weight. The adjusted p-value is the least level of the trial at which "
         "the hypothesis is rejected; it is above 1 if no level up to 1 rejects it.</p>",
     ])
 
@@ -350,14 +351,14 @@ def commands(findings, file, words):
         return parts + ["<p>There is no evidence for a staged trial: the same program decides again.</p>"]
     made = ["welungad evidence < case.txt > evidence.txt", "welungad check evidence.txt < case.txt"]
     if findings.evidence:
-        parts.append(f"<p>The program's own evidence ends with status {findings.evidence} here. So the script below makes it, and "
-                     "another one checks it, both without the proved program.</p>")
-        made = ["python3 tools/make_evidence.py case.txt report.txt > evidence.txt"]
+        parts.append(f"<p>The program makes no evidence here: <code>evidence</code> ends with status {findings.evidence}. So a script makes "
+                     "it. The program can often check what the script made; if it refuses that too, the next script alone checks it.</p>")
+        made[0] = "python3 tools/make_evidence.py case.txt report.txt > evidence.txt"
     made.append("python3 tools/check_evidence.py case.txt evidence.txt")
     made += ["python3 tools/closed_test.py case.txt --sets"] if len(findings.names) <= 12 else []
     return [*parts, "<h3>To check it</h3>", "<pre>" + escape("\n".join(made)) + "</pre>",
-            "<p>The scripts share no code with the program. The first one checks the evidence"
-            + (", and the second one decides by the definition, over all intersections.</p>" if len(findings.names) <= 12 else ".</p>")]
+            "<p>The scripts share no code with the program. <code>check_evidence.py</code> checks the evidence"
+            + (", and <code>closed_test.py</code> decides by the definition, over all intersections.</p>" if len(findings.names) <= 12 else ".</p>")]
 
 
 def program_list(program):

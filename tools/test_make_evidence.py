@@ -225,9 +225,16 @@ class Program(unittest.TestCase):
         self.assertRegex(done.stdout, "1[5-9][0-9] own document: both say yes")
 
     def test_two_families(self):
-        """Whether the program still refuses evidence for the two families as too wide, as docs/REFUSALS.md says."""
-        done = subprocess.run([test_tools.PROGRAM, "evidence"], input=families(4), capture_output=True, text=True)
+        """Whether the program decides on the two families and makes no evidence, and checks the document that is made here."""
+        case = families(4)
+        done = subprocess.run([test_tools.PROGRAM, "evidence"], input=case, capture_output=True, text=True)
         self.assertEqual((done.returncode, done.stdout[:9]), (5, "too wide:"))
+        decided = subprocess.run([test_tools.PROGRAM, "test"], input=case, capture_output=True, text=True).stdout
+        with tempfile.NamedTemporaryFile("w", suffix=".txt") as file:
+            file.write(document(case, decided))
+            file.flush()
+            done = subprocess.run([test_tools.PROGRAM, "check", file.name], input=case, capture_output=True, text=True)
+        self.assertEqual((done.returncode, done.stdout), (0, "yes\nlisted A0 A1 A2 A3 B0 B1 B2 B3\nkept\nend\n"))
 
 
 if __name__ == "__main__":

@@ -291,7 +291,7 @@ class Pages(unittest.TestCase):
 
     def test_numbers(self):
         """Whether a decimal is exact, or marked as not exact."""
-        for x, wanted in [("1/40", "= 0.025"), ("1/3", "≈ 0.33333"), ("-1/8", "= 0.125"), ("3/2", "= 1.5"), ("1/12345678901", "≈ 8.1e-11"),
+        for x, wanted in [("1/40", "= 0.025"), ("1/3", "≈ 0.33333"), ("1/8", "= 0.125"), ("3/2", "= 1.5"), ("1/12345678901", "≈ 8.1e-11"),
                           ("1/200000000", "≈ 5e-09"), ("1/100000000", "= 0.00000001")]:
             self.assertEqual(report.decimal_text(Fraction(x)), wanted)
 
@@ -339,13 +339,83 @@ class Refusals(unittest.TestCase):
         self.assertIsNone(refusals.explained("no such line", "test"))
 
 
+STAGED = """alpha 1/40
+hypotheses PFS OS
+weights 1/5 4/5
+edge PFS OS 1
+edge OS PFS 1
+stages 2
+table PFS 1/5 3/1000 1/500
+table PFS 1 3/200 1/100
+table OS 4/5 1/200 3/200
+table OS 1 1/160 3/160
+arrive PFS 1 1/500
+arrive OS 1 1/50
+arrive OS 2 9/500
+"""
+LOOKS = """alpha 1/40
+arrive PFS 1 1/500
+reject PFS stage 1 weight 1/5
+arrive OS 1 1/50
+arrive OS 2 9/500
+reject OS stage 2 weight 1
+rejected PFS OS
+end
+"""
+STEPS = {
+    "1 1": "kept PFS p 1 weight 1/5\nkept OS p 1 weight 4/5\nrejected\nadjusted PFS 1 not reached\nadjusted OS 1 not reached\nend\n",
+    "0 1": "step 1 PFS p 0 weight 1/5\nkept OS p 1 weight 1\nrejected PFS\nadjusted PFS 0\nadjusted OS 1\nend\n",
+    "0 0": "step 1 PFS p 0 weight 1/5\nstep 2 OS p 0 weight 1\nrejected PFS OS\nadjusted PFS 0\nadjusted OS 0\nend\n",
+}
+
+
+def staged(words, case, looks=LOOKS):
+    """Answers on the trial of examples/staged-levels.txt, by hand."""
+    if words[0] == "test":
+        return 0, "alpha 1/2\n" + STEPS[re.search("(?m)^p (.*)$", case)[1]]
+    return 0, {"canon": STAGED, "stages": looks, "weights": "weights 2\nset PFS=1/5 OS=4/5\nset OS=1\nset PFS=1\nend\n"}[words[0]]
+
+
 class Stages(unittest.TestCase):
+    def test_page(self):
+        """Whether the page of a staged trial has the looks, the levels and the rejections, by hand."""
+        given = test_tools.content("examples", "staged-levels.txt")
+        page = read(report.page(given, staged))
+        self.assertEqual(rows_of(page, "decision")[1:], [
+            ["PFS", "rejected, step 1, after look 1", "1", "1/500 = 0.002", "3/1000 = 0.003", "1/5 = 0.2", "1/5 = 0.2"],
+            ["OS", "rejected, step 2, after look 3", "2", "9/500 = 0.018", "3/160 = 0.01875", "1", "4/5 = 0.8"],
+        ])
+        self.assertEqual(rows_of(page, "looks")[1:], [
+            ["1", "PFS", "1", "1/500 = 0.002", "PFS (by stage 1)"], ["2", "OS", "1", "1/50 = 0.02", "none"],
+            ["3", "OS", "2", "9/500 = 0.018", "OS (by stage 2)"],
+        ])
+        self.assertEqual(rows_of(page, "spends")[3], ["OS, from the weight 4/5 = 0.8 on", "levels", "1/200 = 0.005", "3/200 = 0.015"])
+        self.assertEqual(rows_of(page, "sets")[1:], [["PFS, OS", "1/5", "4/5", "yes", "yes"], ["PFS", "1", "–", "yes", "yes"], ["OS", "–", "1", "yes", "yes"]])
+        self.assertEqual([next(it.all("desc")).text() for it in page.all("figure")], [
+            "PFS has the weight 1/5 and passes 1 to OS. OS has the weight 4/5 and passes 1 to PFS.", "Rejected: PFS. OS has the weight 1.",
+            "Rejected: PFS and OS.",
+        ])
+
+    def test_other_reports(self):
+        """Whether there is no page if the report of stages is not whole, or is that of another case."""
+        given = test_tools.content("examples", "staged-levels.txt")
+        for old, new in [
+            (LOOKS, ""), ("end\n", ""), ("alpha 1/40", "alpha 1/20"), ("arrive OS 1 1/50\n", ""), ("OS 2 9/500", "OS 2 8/500"), ("OS 2 9/500", "OS 2 1/100"),
+            ("arrive OS 1", "arrive DFS 1"), ("reject OS stage 2", "reject OS stage 1"), ("reject OS stage 2 weight 1", "reject OS stage 2 weight 4/5"),
+            ("rejected PFS OS", "rejected OS PFS"), ("rejected PFS OS", "rejected PFS"), ("reject OS stage 2 weight 1\nrejected PFS OS", "rejected PFS"),
+            ("reject OS", "reject PFS"),
+        ]:
+            with self.subTest(new), self.assertRaises(reports.NotAReport):
+                self.assertIn(old, LOOKS)
+                report.page(given, lambda words, case, text=LOOKS.replace(old, new): staged(words, case, text))
+        with self.assertRaises(reports.NotAReport):
+            report.page(given.replace("OS 4/5 0.005", "OS 4/5 0.004"), staged)
+
     def test_levels(self):
         """Whether the level of a stage is that of the case, by fractions and by a table: FORMATS has both for the trial."""
-        case = test_tools.content("examples", "staged-levels.txt")
         held = findings.Findings.__new__(findings.Findings)
         held.alpha = Fraction(1, 40)
-        held.staging = [line.split() for line in case.split("\n") if line[:5] in ("table", "spend")]
+        held.staging = [line.split() for line in STAGED.split("\n") if line[:5] == "table"]
         self.assertEqual(held.level("PFS", 1, Fraction(1, 5)), Fraction(3, 1000))
         self.assertEqual(held.level("OS", 2, Fraction(1)), Fraction(3, 160))
         self.assertEqual(held.level("OS", 2, Fraction(9, 10)), Fraction(3, 200))
