@@ -889,7 +889,8 @@ class Scripts(unittest.TestCase):
         names = [name for name in SCRIPTS if not name.endswith(".py")]
         for folder in ("bench", "c", "python", "r", "tools"):
             names += [os.path.relpath(path, TOP) for path in glob.glob(os.path.join(TOP, folder, "*.sh"))]
-        done = subprocess.run(["shellcheck", "-x", "-S", "warning", "-e", "SC1007", *sorted(set(names))], capture_output=True, text=True, cwd=TOP)
+        words = ["shellcheck", "-x", "-S", "warning", "-e", "SC1007", *sorted(set(names))]
+        done = subprocess.run(words, capture_output=True, text=True, cwd=TOP)
         self.assertEqual((done.returncode, done.stdout), (0, ""), done.stderr)
 
 
