@@ -1,12 +1,12 @@
 #!/bin/sh
 # Runs the tests of welungad.py over c/out/libwelungad.so, which it builds if it isn't built. Ends with a status other than 0
-# if a test fails, and with 77 and a line if a tool is missing.
+# if a test fails; prints a line and ends with 0 if a tool is missing.
 set -eu
-here=$(dirname -- "$(readlink -f -- "$0")")
+here=$(cd "$(dirname "$0")" && pwd)
 for tool in rt cc python3; do
     if ! command -v "$tool" >/dev/null; then
         echo "python/run_tests.sh: skipped, since $tool is missing"
-        exit 77
+        exit 0
     fi
 done
 "$here/../c/build.sh"

@@ -758,7 +758,8 @@ class Configure(Room):
             ("WELUNGAD_INCLUDE, which is not set", {"WELUNGAD_LIB": f"{prefix}/lib"}),
             ("WELUNGAD_LIB, which is not set", {"WELUNGAD_INCLUDE": f"{prefix}/include"}),
             ("no libwelungad.a or libwelungad.so", {"WELUNGAD_INCLUDE": f"{prefix}/include", "WELUNGAD_LIB": f"{prefix}/bin"}),
-            ("nowhere is not a folder in /", {"WELUNGAD_PREFIX": "nowhere"}),
+            ("WELUNGAD_PREFIX: nowhere is not a folder in /", {"WELUNGAD_PREFIX": "nowhere"}),
+            ("WELUNGAD_PREFIX has a character", {"WELUNGAD_PREFIX": "/it's"}),
         ):
             done, written = self.configure(**places)
             self.is_refused(done, words)
