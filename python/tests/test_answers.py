@@ -67,6 +67,15 @@ class Whole(unittest.TestCase):
                     with self.subTest((command, labels)), self.assertRaises(welungad.BadAnswer):
                         read(command, text, function, labels)
 
+    def test_cases(self):
+        texts = {"canon": "alpha 1/40\nhypotheses A\nweights 1\n", "canon csv": "hypothesis,weight,p,A\nA,1,,0\n",
+                 "canon json": "{\"alpha\":\"1/40\",\"components\":[]}\n"}
+        for command, text in texts.items():
+            self.assertEqual(_reports.take_answer(command, 0, text.encode()), text)
+            for other in [*(it for it in texts.values() if it != text), "", text[:-1], "x" + text]:
+                with self.subTest((command, other)), self.assertRaises(welungad.BadAnswer):
+                    _reports.take_answer(command, 0, other.encode())
+
     def test_hypotheses_in_another_order(self):
         text = DECISION.replace("kept B p 9/10 weight 1\nrejected A\n", "step 2 B p 1/50 weight 1\nrejected B A\n")
         with self.assertRaises(welungad.BadAnswer):
