@@ -130,7 +130,7 @@ def read_whole(command: str, text: str, labels: Mapping[str, str], read: Callabl
     report = Report(command, text, labels)
     try:
         result = read(report)
-    except (ValueError, ZeroDivisionError) as error:
+    except (ValueError, IndexError, ZeroDivisionError) as error:
         report.fail(f"a line of it cannot be read ({error})")
     report.end()
     return result
