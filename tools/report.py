@@ -429,8 +429,8 @@ def page(case_text, run, **how):
     """Returns the page about the decision on a case, as HTML.
 
     `run(words, case)` runs a command of the program and returns its status and its text. `form` and `alpha` say how the case is
-    written, `file` what it is called, `labels` has the user's name of each hypothesis, and `program` pairs of texts about the
-    program. `NotAReport`: a text is not the report of its command on this case.
+    written, `file` what it is called, `labels` is a list with the user's name of each hypothesis, and `program` pairs of texts about
+    the program. `NotAReport`: a text is not the report of its command on this case. `ValueError`: the labels are not all different.
     """
     return document(case_text, run, **how)[1]
 
