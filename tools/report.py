@@ -372,7 +372,8 @@ def commands(findings, file, words):
     made.append("python3 tools/check_evidence.py case.txt evidence.txt")
     made += ["python3 tools/closed_test.py case.txt --sets"] if len(findings.names) <= 12 else []
     return [*parts, "<h3>To check it</h3>", "<pre>" + escape("\n".join(made)) + "</pre>",
-            "<p>The scripts share no code with the program. <code>check_evidence.py</code> checks the evidence"
+            "<p>The scripts share no code with the program; their folder <code>tools</code> is in the repository, and in an installation "
+            "in <code>share/welungad</code>. <code>check_evidence.py</code> checks the evidence"
             + (", and <code>closed_test.py</code> decides by the definition, over all intersections.</p>" if len(findings.names) <= 12 else ".</p>")]
 
 
