@@ -1,0 +1,10 @@
+mod Answers
+mod ByTheRules
+mod Near
+mod Neighbours
+mod Quarters
+mod Readable
+mod Steps
+mod Unique
+mod Units
+mod Wide

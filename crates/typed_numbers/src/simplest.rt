@@ -1,0 +1,65 @@
+//! The simplest fraction in an interval.
+ghost use Rattle.std.specs.Prelude.{◌≡◌, ◌+◌, ◌*◌, ◌<◌, ◌≤◌, ◌^◌, IfSome, None};
+ghost use Rattle.typed_numbers.specs.Intervals.{Range};
+ghost use Rattle.typed_numbers.specs.Searches.{in_quarters, IsSimplestIn, HasNoneIn};
+
+use crate::intervals::Interval;
+
+/// The largest denominator of a simple fraction.
+const LIMIT: u128 = 10000;
+
+/// The most binary places of a double that can be near a simple fraction: a smaller double is below 1/10,000 by far.
+const MOST_PLACES: u32 = 68;
+
+/// Returns the fraction of the least denominator in the interval from low / scale to high / scale, or nothing if that
+/// denominator passes `limit`. `ends` is 1 if the ends belong to it, else 0.
+fn simplest_between(
+    scale: u128,
+    low: u128,
+    high: u128,
+    ends: u128,
+    limit: u128,
+) -> Option<(u128, u128)>
+    requires ends { ends ≤ 1 }
+    requires above_zero { ends ≤ low }
+    requires order { low < high }
+    requires below_one { high + ends ≤ scale }
+    requires scale { scale ≤ 2 ^ 70 }
+    requires limit { limit ≤ 16384 }
+    ensures found { IfSome result (λ f. IsSimplestIn (record { scale = scale; low = low; high = high; ends = ends }) limit f.0 f.1) }
+    ensures none { result ≡ None → HasNoneIn (record { scale = scale; low = low; high = high; ends = ends }) limit }
+{
+    let mut a: u128 = 0;
+    let mut b: u128 = 1;
+    let mut c: u128 = 1;
+    let mut d: u128 = 1;
+    while b + d <= limit {
+        let n = a + c;
+        let q = b + d;
+        if n * scale + ends <= low * q {
+            let most = (low * b - a * scale - ends) / (c * scale - low * d);
+            let k = most.min(limit);
+            a += k * c;
+            b += k * d;
+        } else if high * q + ends <= n * scale {
+            let most = (c * scale - high * d - ends) / (high * b - a * scale);
+            let k = most.min(limit);
+            c += k * a;
+            d += k * b;
+        } else {
+            return Some((n, q));
+        }
+    }
+    None
+}
+
+/// Returns the fraction of the least denominator in the interval of a double, or nothing if that passes 10,000.
+pub fn simplest(x: Interval) -> Option<(u128, u128)>
+    ensures found { IfSome result (λ f. IsSimplestIn (in_quarters x.places x.low x.high x.ends) 10000 f.0 f.1) }
+    ensures none { result ≡ None → HasNoneIn (in_quarters x.places x.low x.high x.ends) 10000 }
+{
+    if x.places > MOST_PLACES {
+        return None;
+    }
+    simplest_between(1 << x.places, x.low, x.high, x.ends, LIMIT)
+}
