@@ -15,7 +15,7 @@ from fractions import Fraction
 
 TOOLS = os.path.dirname(os.path.abspath(__file__))
 TOP = os.path.dirname(TOOLS)
-sys.path.append(os.path.join(TOP, "python"))
+sys.path.append(os.path.join(TOP, "python", "tests"))
 
 import acceptance_rows  # noqa: E402
 import check_evidence  # noqa: E402
