@@ -262,6 +262,7 @@ class Pages(unittest.TestCase):
         status, text = report.document(CASE, answering(test=(5, "too wide: step 3: component 1 weight of H4 mul\n")))
         self.assertEqual(status, 5)
         self.assertIn("2^127", self.check_form(text).text())
+        self.assertIn("python3 tools/make_evidence.py case.txt > evidence.txt\nwelungad check evidence.txt < case.txt\n", read(text).text())
         for status, said in [(3, ""), (3, "malformed: kind"), (-11, ""), (3, "malformed: kind\nmore\n")]:
             with self.assertRaises(reports.NotAReport):
                 report.page(CASE, answering(canon=(status, said)))
