@@ -139,7 +139,7 @@ def answering(**others):
     return run
 
 
-class Pages(unittest.TestCase):
+class Form(unittest.TestCase):
     def check_form(self, text):
         """Makes sure that a page is accessible, and that it needs nothing else."""
         page = read(text)
@@ -164,6 +164,8 @@ class Pages(unittest.TestCase):
         self.assertNotRegex(text.replace("http://www.w3.org/2000/svg", ""), r"https?:|url\((?!#)|@import|\bon[a-z]+=|\bsrc=")
         return page
 
+
+class Pages(Form):
     def test_two_hypotheses(self):
         """Whether the page has the numbers of the reports, which are by hand."""
         page = self.check_form(report.page(CASE, answering(), file="two.txt", program=[("SHA-256 digest of the program", "abc")]))
@@ -585,7 +587,7 @@ def compare_page(test, seed, number):
 
 
 @unittest.skipUnless(os.access(test_tools.PROGRAM, os.X_OK), "the program isn't built")
-class Program(Pages):
+class Program(Form):
     def test_random_pages(self):
         """Whether each number on the pages of some random cases is the program's."""
         self.assertGreater(sum(compare_page(self, "gate", number) for number in range(12)), 8)
