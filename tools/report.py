@@ -397,6 +397,20 @@ def whole(title, parts):
     ])
 
 
+def way_round(refused, file, words):
+    """The command lines that decide a case whose decision is too wide for the program, while its checker may take the evidence."""
+    if refused.args[:2] != ("test", 5):
+        return []
+    canon = " ".join(["welungad canon", *map(shlex.quote, words), "<", shlex.quote(file), "> case.txt"])
+    lines = [canon, "python3 tools/make_evidence.py case.txt > evidence.txt", "welungad check evidence.txt < case.txt",
+             "python3 tools/check_evidence.py case.txt evidence.txt"]
+    return [
+        "<p>Or let a script decide, with numbers of any size. If the program then says yes to its evidence, the closed test rejects what "
+        "is listed, and nothing else. If the numbers of the evidence are too wide for the program too, the last line alone checks it.</p>",
+        "<pre>" + escape("\n".join(lines)) + "</pre>",
+    ]
+
+
 def refusal_page(refused, given, file, words, program):
     """The page about a case that the program refuses."""
     title = f"No decision: {file} is refused"
@@ -406,7 +420,7 @@ def refusal_page(refused, given, file, words, program):
     return whole(title, [
         f"<h1>{escape(title)}</h1>",
         '<p class="answer refused">The program decides nothing on this case, because it refuses it.</p>',
-        "<h2>Why, and what to do</h2>", refusal_list(refused),
+        "<h2>Why, and what to do</h2>", refusal_list(refused), *way_round(refused, file, words),
         "<h2>The case as it was given</h2>", given_text(given, line),
         "<h2>The program</h2>", program_list(program),
         "<h3>To repeat it</h3>", f"<pre>{escape(f'welungad {refused.args[0]}{options} < {shlex.quote(file)}')}</pre>",

@@ -11,6 +11,7 @@ TOOLS = os.path.dirname(os.path.abspath(__file__))
 TOP = os.path.dirname(TOOLS)
 sys.path[:0] = [TOOLS, os.path.join(TOP, "bench")]
 
+import carry  # noqa: E402
 import check_evidence  # noqa: E402
 import checkers  # noqa: E402
 import closed_test  # noqa: E402
@@ -223,6 +224,16 @@ class Program(unittest.TestCase):
         self.assertEqual((done.returncode, done.stderr), (0, ""), done.stdout)
         self.assertIn("\n0 disagreements\n", done.stdout)
         self.assertRegex(done.stdout, "1[5-9][0-9] own document: both say yes")
+
+    def test_undecided(self):
+        """Whether the program checks the decision on a case on which its own decision is too wide: random edges of two decimals."""
+        case = carry.case_of(carry.KINDS["two"][1](random.Random("1/two/16/0"), 16), 16)
+        with tempfile.NamedTemporaryFile("w", suffix=".txt") as file:
+            file.write(document(case))
+            file.flush()
+            for words, wanted in ([["test"], (5, "too wide:")], [["check", file.name], (0, "yes\nliste")]):
+                done = subprocess.run([test_tools.PROGRAM, *words], input=case, capture_output=True, text=True)
+                self.assertEqual((done.returncode, done.stdout[:9]), wanted)
 
     def test_two_families(self):
         """Whether the program decides on the two families and makes no evidence, and checks the document that is made here."""

@@ -139,7 +139,7 @@ def answering(**others):
     return run
 
 
-class Pages(unittest.TestCase):
+class Form(unittest.TestCase):
     def check_form(self, text):
         """Makes sure that a page is accessible, and that it needs nothing else."""
         page = read(text)
@@ -164,6 +164,8 @@ class Pages(unittest.TestCase):
         self.assertNotRegex(text.replace("http://www.w3.org/2000/svg", ""), r"https?:|url\((?!#)|@import|\bon[a-z]+=|\bsrc=")
         return page
 
+
+class Pages(Form):
     def test_two_hypotheses(self):
         """Whether the page has the numbers of the reports, which are by hand."""
         page = self.check_form(report.page(CASE, answering(), file="two.txt", program=[("SHA-256 digest of the program", "abc")]))
@@ -262,6 +264,7 @@ class Pages(unittest.TestCase):
         status, text = report.document(CASE, answering(test=(5, "too wide: step 3: component 1 weight of H4 mul\n")))
         self.assertEqual(status, 5)
         self.assertIn("2^127", self.check_form(text).text())
+        self.assertIn("python3 tools/make_evidence.py case.txt > evidence.txt\nwelungad check evidence.txt < case.txt\n", read(text).text())
         for status, said in [(3, ""), (3, "malformed: kind"), (-11, ""), (3, "malformed: kind\nmore\n")]:
             with self.assertRaises(reports.NotAReport):
                 report.page(CASE, answering(canon=(status, said)))
@@ -584,7 +587,7 @@ def compare_page(test, seed, number):
 
 
 @unittest.skipUnless(os.access(test_tools.PROGRAM, os.X_OK), "the program isn't built")
-class Program(Pages):
+class Program(Form):
     def test_random_pages(self):
         """Whether each number on the pages of some random cases is the program's."""
         self.assertGreater(sum(compare_page(self, "gate", number) for number in range(12)), 8)
