@@ -103,9 +103,10 @@ def _metadata(folder: str) -> str:
 
 
 def _add_library(package: str) -> bool:
-    """Copies the library into the package, with a stamp, if there is one. Refuses one that its stamp does not name."""
+    """Copies the library into the package, if there is one, with a stamp that has its checksum and the path of the program beside
+    it, which studies run. Refuses a library that its stamp does not name."""
     sys.path.insert(0, _HERE)
-    from welungad import _library
+    from welungad import _library, _program
 
     path = next((path for path in _library.places() if os.path.isfile(path)), None)
     if path is None:
@@ -118,8 +119,10 @@ def _add_library(package: str) -> bool:
         raise SystemExit(f"welungad: {error}") from error
     copy = os.path.join(package, _LIBRARY)
     shutil.copyfile(path, copy)
-    with open(copy, "rb") as file, open(os.path.join(package, "stamp"), "w", encoding="ascii") as stamp:
+    program = next((path for path in _program.program_places() if os.path.isfile(path) and "\n" not in path), None)
+    with open(copy, "rb") as file, open(os.path.join(package, "stamp"), "w", encoding="utf-8") as stamp:
         stamp.write(f"sha256 {_LIBRARY} {hashlib.sha256(file.read()).hexdigest()}\n")
+        stamp.write(f"program {program}\n" if program else "")
     return True
 
 

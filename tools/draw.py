@@ -188,9 +188,11 @@ def frame(case, edges, centre, lines):
     far = max([0, *(abs(bow_of(edges, i, j, c, centre)) for i, j, c, _ in edges if ys[i] == ys[j])])
     side = max(75, *(4 * len(name) for name in case.names))
     high = max(RADIUS + (40 if any(len(name) > 10 for name in case.names) else 25), far + 18)
-    left = min(xs) - side
-    right = max(max(xs) + side, left + 30 + max(8.2 * len(text) for _, text in lines))
-    return left, min(ys) - high, right, max(ys) + high + 18 + 20 * len(lines)
+    bends = [Curve(centre[i], centre[j], bow_of(edges, i, j, c, centre)).at(t) for i, j, c, _ in edges for t in (0.25, 0.5, 0.75)]
+    left = min([min(xs) - side, *(x - 30 for x, _ in bends)])
+    right = max([max(xs) + side, *(x + 30 for x, _ in bends), left + 30 + max(8.2 * len(text) for _, text in lines)])
+    top = min([min(ys) - high, *(y - 15 for _, y in bends)])
+    return left, top, right, max([max(ys) + high, *(y + 15 for _, y in bends)]) + 18 + 20 * len(lines)
 
 
 def opening(size, prefix, title, description):

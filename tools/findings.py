@@ -27,6 +27,8 @@ class Findings:
         self.compare_with_given(form, alpha)
         self.names, self.alpha = self.case.names, self.case.alpha
         self.labels = dict(zip(self.names, labels or self.names))
+        if len({*(labels or self.names)}) != len(self.names) or len(labels or self.names) != len(self.names):
+            raise ValueError(f"labels: {len(self.names)} different ones are needed, one for each hypothesis")
         self.start = {name: sum(part.share * part.weights[k] for part in self.case.components) for k, name in enumerate(self.names)}
         self.read_decision()
         self.states = [*self.all_states()]

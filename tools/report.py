@@ -28,7 +28,7 @@ from refusals import explained
 from reports import NotAReport
 
 HERE = os.path.dirname(os.path.abspath(__file__))
-LARGE = 620  # a wider picture has the whole width of the page
+LARGE, MOST_EDGES = 620, 1000  # a wider picture has the whole width of the page; a graph of more edges is not drawn
 P_VALUE = '<span class="whole">p-value</span>'
 
 STYLE = """
@@ -251,27 +251,42 @@ def described(findings, state):
     return " ".join([*([f"Rejected: {gone}."] if gone else []), *sentences]) or "No hypothesis is left."
 
 
+def title_of(findings, n):
+    """The title of the picture after a step."""
+    if not findings.order:
+        return "The graph: no hypothesis is rejected"
+    if len(findings.names) > MOST_PICTURES:
+        return "Before the first rejection, with the step of each later one"
+    after = f"After step {n}: {findings.labels[findings.order[n - 1]]} is rejected" if n else "Before the first rejection"
+    return after + (", the end" if n == len(findings.order) else "")
+
+
+def figure(findings, n, centre):
+    """The picture after a step, with its title, or why there is none."""
+    state, title = findings.states[n], title_of(findings, n)
+    if isinstance(state, Refused):
+        return f"<p>{escape(title)}: there is no picture, since the program prints no weights for it.</p>{refusal_list(state)}"
+    marked = state.removed if len(findings.names) <= MOST_PICTURES else findings.order
+    steps = {findings.labels[name]: str(findings.steps[name]) for name in marked}
+    drawn = draw.picture(state.case, steps, centre, f"graph{n}-", title, described(findings, state))
+    return f"<figure>\n<figcaption>{escape(title)}</figcaption>\n{drawn}</figure>"
+
+
 def pictures(findings):
     """The graph before the first rejection and after each."""
-    centre = draw.centres(findings.case, draw.edges_of(findings.case))
-    items, widest = [], 0
-    for n, state in enumerate(findings.states):
-        after = f"After step {n}: {findings.labels[findings.order[n - 1]]} is rejected" if n else "Before the first rejection"
-        title = after + (", the end" if n == len(findings.order) else "") if findings.order else "The graph: no hypothesis is rejected"
-        if isinstance(state, Refused):
-            items.append(f"<li><p>{escape(title)}: there is no picture, since the program prints no weights for it.</p>{refusal_list(state)}</li>")
-            continue
-        numbers = {findings.labels[name]: str(findings.steps[name]) for name in state.removed}
-        drawn = draw.picture(state.case, numbers, centre, f"graph{n}-", title, described(findings, state))
-        widest = max(widest, int(re.search(r' width="(\d+)"', drawn)[1]))
-        items.append(f"<li><figure>\n<figcaption>{escape(title)}</figcaption>\n{drawn}</figure></li>")
-    words = "" if len(findings.names) <= MOST_PICTURES else f"<p>Graphs of more than {MOST_PICTURES} hypotheses are drawn once.</p>"
+    head, edges = "<h2>The graph, step by step</h2>", draw.edges_of(findings.case)
+    if len(edges) > MOST_EDGES:
+        return f"{head}\n<p>A graph of {len(edges)} edges is not drawn.</p>"
+    centre = draw.centres(findings.case, edges)
+    figures = [figure(findings, n, centre) for n in range(len(findings.states))]
+    widest = max(map(int, re.findall(r'<svg [^>]* width="(\d+)"', "".join(figures))), default=0)
     return "\n".join([
-        "<h2>The graph, step by step</h2>",
+        head,
         "<p>A circle has the name of a hypothesis and its weight. An arrow has the part of the weight that it passes on if its hypothesis "
         "is rejected. The weights are those that the program prints; it prints no edges, so the edges after a rejection are computed "
-        f"for the pictures, and the weights that they give were compared with the program's.</p>{words}",
-        f'<ol class="pictures{" large" if widest > LARGE else ""}">', *items, "</ol>",
+        "for the pictures, and the weights that they give were compared with the program's.</p>",
+        *([f"<p>A graph of more than {MOST_PICTURES} hypotheses is drawn once.</p>"] if len(findings.names) > MOST_PICTURES else []),
+        f'<ol class="pictures{" large" if widest > LARGE else ""}">', *(f"<li>{it}</li>" for it in figures), "</ol>",
     ])
 
 
@@ -357,7 +372,8 @@ def commands(findings, file, words):
     made.append("python3 tools/check_evidence.py case.txt evidence.txt")
     made += ["python3 tools/closed_test.py case.txt --sets"] if len(findings.names) <= 12 else []
     return [*parts, "<h3>To check it</h3>", "<pre>" + escape("\n".join(made)) + "</pre>",
-            "<p>The scripts share no code with the program. <code>check_evidence.py</code> checks the evidence"
+            "<p>The scripts share no code with the program; their folder <code>tools</code> is in the repository, and in an installation "
+            "in <code>share/welungad</code>. <code>check_evidence.py</code> checks the evidence"
             + (", and <code>closed_test.py</code> decides by the definition, over all intersections.</p>" if len(findings.names) <= 12 else ".</p>")]
 
 
@@ -429,8 +445,8 @@ def page(case_text, run, **how):
     """Returns the page about the decision on a case, as HTML.
 
     `run(words, case)` runs a command of the program and returns its status and its text. `form` and `alpha` say how the case is
-    written, `file` what it is called, `labels` has the user's name of each hypothesis, and `program` pairs of texts about the
-    program. `NotAReport`: a text is not the report of its command on this case.
+    written, `file` what it is called, `labels` is a list with the user's name of each hypothesis, and `program` pairs of texts about
+    the program. `NotAReport`: a text is not the report of its command on this case. `ValueError`: the labels are not all different.
     """
     return document(case_text, run, **how)[1]
 

@@ -758,7 +758,8 @@ class Configure(Room):
             ("WELUNGAD_INCLUDE, which is not set", {"WELUNGAD_LIB": f"{prefix}/lib"}),
             ("WELUNGAD_LIB, which is not set", {"WELUNGAD_INCLUDE": f"{prefix}/include"}),
             ("no libwelungad.a or libwelungad.so", {"WELUNGAD_INCLUDE": f"{prefix}/include", "WELUNGAD_LIB": f"{prefix}/bin"}),
-            ("nowhere is not a folder in /", {"WELUNGAD_PREFIX": "nowhere"}),
+            ("WELUNGAD_PREFIX: nowhere is not a folder in /", {"WELUNGAD_PREFIX": "nowhere"}),
+            ("WELUNGAD_PREFIX has a character", {"WELUNGAD_PREFIX": "/it's"}),
         ):
             done, written = self.configure(**places)
             self.is_refused(done, words)
@@ -885,11 +886,12 @@ if [ "$1" = canon ]; then echo "$kase"; else echo "study $*"; : >looks.db; fi
 class Scripts(unittest.TestCase):
     @unittest.skipUnless(shutil.which("shellcheck"), "shellcheck is missing")
     def test_shellcheck(self):
-        """Whether shellcheck finds nothing in any script of this checkout."""
+        """Whether shellcheck finds nothing in any script of this checkout. SC1007 takes `CDPATH= cd` for a slip."""
         names = [name for name in SCRIPTS if not name.endswith(".py")]
         for folder in ("bench", "c", "python", "r", "tools"):
             names += [os.path.relpath(path, TOP) for path in glob.glob(os.path.join(TOP, folder, "*.sh"))]
-        done = subprocess.run(["shellcheck", "-x", "-S", "warning", *sorted(set(names))], capture_output=True, text=True, cwd=TOP)
+        words = ["shellcheck", "-x", "-S", "warning", "-e", "SC1007", *sorted(set(names))]
+        done = subprocess.run(words, capture_output=True, text=True, cwd=TOP)
         self.assertEqual((done.returncode, done.stdout), (0, ""), done.stderr)
 
 

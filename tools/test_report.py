@@ -286,6 +286,9 @@ class Pages(unittest.TestCase):
         self.assertEqual([row[0] for row in rows_of(page, "decision")[1:]], ["low <dose> & \"more\" (H1)", "high\u00fc (H2)"])
         self.assertIn("<u>", [it.text() for it in page.all("code")])
         self.assertIn("welungad canon < '<b>.txt'", page.text())
+        for labels in (["a"], ["a", "a"], ["a", "b", "c"]):
+            with self.assertRaises(ValueError):
+                report.page(CASE, answering(), labels=labels)
         broken = report.page(b"# \xff\n" + CASE.encode(), lambda words, given: (0, CANON) if words[0] == "canon" else answering()(words, given))
         self.assertIn("# \ufffd\n", next(read(broken).all("pre")).text())
 
@@ -560,7 +563,7 @@ class Compared:
 def limit_of(text):
     """The value of an edge in a picture with epsilon at 0."""
     text = text.removeprefix("≈")
-    if found := re.fullmatch(r"\((.*)\)/\((.*)\)", text):
+    if found := re.fullmatch(r"\(?(.*?)\)?/\((.*)\)", text):
         return limit_of(found[1]) / limit_of(found[2])
     terms = re.findall(r"([+−]?)(≈?[0-9./e-]*)(·?ε\S?)?", text)
     return sum((-1 if sign == "−" else 1) * Fraction(size.removeprefix("≈")) for sign, size, small in terms if size and not small)

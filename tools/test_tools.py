@@ -494,6 +494,19 @@ class Pictures(unittest.TestCase):
                     done = subprocess.run([sys.executable, os.path.join(TOOLS, "draw.py"), case, path], capture_output=True, text=True)
                     self.assertEqual((done.returncode, done.stdout, done.stderr.count("\n")), (1, "", 1))
 
+    def test_frame(self):
+        """Whether arrows that are bowed around circles stay within the picture: each of sixteen hypotheses passes to each other."""
+        names = [f"H{i}" for i in range(16)]
+        lines = ["alpha 1", "hypotheses " + " ".join(names), "weights" + " 1/16" * 16]
+        case = check_evidence.read_case("\n".join([*lines, *(f"edge {a} {b} 1/15" for a in names for b in names if a != b), ""]))
+        root = xml.etree.ElementTree.fromstring(draw.picture(case))
+        left, top, width, height = map(float, root.get("viewBox").split())
+        for path in root.iter(SVG + "path"):
+            if "marker-end" in path.attrib:
+                (a, b), (p, q), (e, f) = ((float(x) for x in point.split(",")) for point in re.findall(r"[-0-9.]+,[-0-9.]+", path.get("d")))
+                x, y = (a + 2 * p + e) / 4, (b + 2 * q + f) / 4
+                self.assertTrue(left < x < left + width and top < y < top + height, path.attrib)
+
     def test_inline(self):
         """Whether a picture in a page names and describes itself, and keeps its names apart from those of others."""
         case = check_evidence.read_case(SEQUENCE)

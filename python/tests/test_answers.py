@@ -1,4 +1,6 @@
 """Tests of the one function that takes an answer: only the whole text of this command for the hypotheses of this case."""
+import contextlib
+import random
 import unittest
 from unittest import mock
 
@@ -67,6 +69,15 @@ class Whole(unittest.TestCase):
                     with self.subTest((command, labels)), self.assertRaises(welungad.BadAnswer):
                         read(command, text, function, labels)
 
+    def test_cases(self):
+        texts = {"canon": "alpha 1/40\nhypotheses A\nweights 1\n", "canon csv": "hypothesis,weight,p,A\nA,1,,0\n",
+                 "canon json": "{\"alpha\":\"1/40\",\"components\":[]}\n"}
+        for command, text in texts.items():
+            self.assertEqual(_reports.take_answer(command, 0, text.encode()), text)
+            for other in [*(it for it in texts.values() if it != text), "", text[:-1], "x" + text]:
+                with self.subTest((command, other)), self.assertRaises(welungad.BadAnswer):
+                    _reports.take_answer(command, 0, other.encode())
+
     def test_hypotheses_in_another_order(self):
         text = DECISION.replace("kept B p 9/10 weight 1\nrejected A\n", "step 2 B p 1/50 weight 1\nrejected B A\n")
         with self.assertRaises(welungad.BadAnswer):
@@ -75,9 +86,21 @@ class Whole(unittest.TestCase):
     def test_edited_answers(self):
         for old, new in [("step 1 A", "step 2 A"), ("step 1 A", "step 1 B"), ("rejected A", "rejected"), ("rejected A", "rejected A B"),
                          ("p 1/100", "q 1/100"), ("1/100", "x"), ("adjusted B 9/10", "adjusted B 9/10 not"), ("weight 1\n", "weight 1/0\n"),
-                         ("adjusted A", "adjusted B")]:
+                         ("adjusted A", "adjusted B"), ("adjusted A 1/50", "adjusted A"), ("adjusted A 1/50", "adjusted"), ("step 1 A p 1/100 weight 1/2", "step")]:
             with self.subTest((old, new)), self.assertRaises(welungad.BadAnswer):
                 read("test", DECISION.replace(old, new), _reports.read_decision)
+
+    def test_a_changed_line_raises_nothing_else(self):
+        chance = random.Random(8)
+        for command, text, function in WHOLE:
+            lines = text.splitlines()
+            for number, line in enumerate(lines):
+                words = line.split(" ")
+                for at in range(len(words)):
+                    other = words[:at] + chance.choice([[], ["x"], ["-1"], ["1/0"], [""]]) + words[at + 1:]
+                    changed = "".join(it + "\n" for it in [*lines[:number], " ".join(other), *lines[number + 1:]])
+                    with contextlib.suppress(welungad.BadAnswer):
+                        read(command, changed, function)
 
     def test_statuses(self):
         for status in [7, 11, 42, 126, 127, 137, 255, -9]:

@@ -84,7 +84,10 @@ class Given(unittest.TestCase):
             (lambda: graph.check([0.1, 0.1], 5), "^proof is a text"), (lambda: graph.draw(5), "^decision is a decision"),
             (lambda: graph.test_many(5), "^rows is a list"), (lambda: graph.test_many([0.1, 0.2]), "^row 1 is a list"),
             (lambda: graph.test_many([[0.1, 0.2], [True, 0.1]]), "^row 2: the p-value of 'A' is a number"),
-            (lambda: welungad.Graph.entangled([graph, 5], [0.5, 0.5]), "^graphs are graphs"),
+            (lambda: welungad.Graph.entangled([graph, 5], [0.5, 0.5]), "^graphs is a list of graphs"),
+            (lambda: welungad.Graph.entangled(graph, [1]), "^graphs is a list of graphs"),
+            (lambda: welungad.Graph.entangled([graph], {"A": 1}), "^shares is a list in the order"),
+            (lambda: graph.test([0.1, 0.1], priority=5), "^priority is a text"),
             (lambda: welungad.Graph.entangled([graph], 5), "^shares is a list"),
         ]:
             with self.subTest(message), self.assertRaisesRegex(TypeError, message):
@@ -139,6 +142,9 @@ class Given(unittest.TestCase):
         self.assertEqual(graph.test(pandas.Series({"B": 0.01, "A": 0.02})).rejected, ("A", "B"))
         rows = pandas.DataFrame({"B": [0.9, 0.001], "A": [0.001, 0.9]})
         self.assertEqual(graph.test_many(rows).rejected, ((False, False), (False, True)))
+        self.assertEqual(graph.test_many(pandas.DataFrame([[0.001, 0.001]], index=["trial"])).rejected, ((True, True),))
+        with self.assertRaisesRegex(ValueError, "^rows: its rows have the labels of hypotheses"):
+            graph.test_many(pandas.DataFrame([[0.9, 0.001], [0.001, 0.9]], index=["A", "B"]))
         for given, message in [(pandas.DataFrame({"A": [0, 1], "B": [1, 0]}), "the columns have labels, and the others have none"),
                                (frame.rename(columns={"A": "C"}), "'C' is not the name"),
                                (frame.rename(index={"A": "B"}), "occurs 2 times")]:

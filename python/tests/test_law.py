@@ -222,6 +222,7 @@ class Law(unittest.TestCase):
     """Whether the case that was decided is the one that was given."""
 
     def test_random_graphs(self):
+        welungad.run(["help"])  # without the library there is one error
         chance = random.Random(20261130)
         library, counts = Cut(), collections.Counter()
         with mock.patch.object(_graph, "run", library.run):

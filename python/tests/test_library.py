@@ -91,6 +91,22 @@ class Places(Rooms):
             self.assertIn(words, say(folder, self.RUN, WELUNGAD_LIBRARY=made))
 
 
+class Programs(Rooms):
+    """Whether the program is found where it belongs."""
+
+    PLACES = "from welungad import _program; print(*_program.program_places(), sep='\\n')"
+
+    def test_places(self):
+        folder = self.put_package("prefix/share/welungad/python")
+        self.assertEqual(say(folder, self.PLACES).split("\n")[0], f"{self.room}/prefix/bin/welungad")
+        self.assertEqual(say(folder, self.PLACES, WELUNGAD="/a/b"), "/a/b\n")
+
+    def test_the_one_beside_which_it_was_built(self):
+        folder = self.put_package("site-packages")
+        self.put("site-packages/welungad/stamp", b"sha256 libwelungad.so 00\nprogram /a folder/bin/welungad\n")
+        self.assertEqual(say(folder, self.PLACES).split("\n"), ["/a folder/bin/welungad", f"{sys.prefix}/bin/welungad", ""])
+
+
 class Stamps(Rooms):
     """Whether a library that is not what its stamp names is refused."""
 

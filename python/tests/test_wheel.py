@@ -48,14 +48,18 @@ class Wheels(unittest.TestCase):
 
     def test_a_wheel_with_a_library(self):
         before = sorted(os.listdir(SOURCES))
-        name = self.build(WELUNGAD_LIBRARY=self.library(b"abc", b"abc"))
+        program = os.path.join(self.room, "the program")
+        with open(program, "w", encoding="ascii"):
+            pass
+        name = self.build(WELUNGAD_LIBRARY=self.library(b"abc", b"abc"), WELUNGAD=program)
         platform = sysconfig.get_platform().replace("-", "_").replace(".", "_")
         self.assertEqual(name, f"welungad-{welungad.__version__}-py3-none-{platform}.whl")
         self.assertEqual(sorted(os.listdir(SOURCES)), before)
         with zipfile.ZipFile(os.path.join(self.room, name)) as wheel:
             names = wheel.namelist()
             self.assertEqual(wheel.read("welungad/libwelungad.so"), b"abc")
-            self.assertIn(hashlib.sha256(b"abc").hexdigest(), wheel.read("welungad/stamp").decode())
+            stamp = f"sha256 libwelungad.so {hashlib.sha256(b'abc').hexdigest()}\nprogram {program}\n"
+            self.assertEqual(wheel.read("welungad/stamp").decode(), stamp)
             information = f"welungad-{welungad.__version__}.dist-info"
             metadata = wheel.read(f"{information}/METADATA").decode()
             record = wheel.read(f"{information}/RECORD").decode()

@@ -124,6 +124,8 @@ def _numerals(given: Any, labels: Sequence[str], argument: str, one: str) -> Lis
 
 
 def _priority_words(priority: str) -> List[str]:
+    if not isinstance(priority, str):
+        raise TypeError(f"priority is a text, and not of type {kind_of(priority)}")
     if priority not in _PRIORITIES:
         raise ValueError(f"priority is one of {', '.join(_PRIORITIES)}, and not {priority!r}")
     return [] if priority == "first" else ["--priority", priority]
@@ -177,10 +179,13 @@ class Graph:
         """Returns the entangled graph of several graphs over the same hypotheses, each with its share of the level.
 
         `shares` are numbers from 0 to 1 that sum to at most 1, one for each graph. At most 8 graphs."""
+        if not isinstance(graphs, (list, tuple)) or not graphs or not all(isinstance(it, Graph) for it in graphs):
+            raise TypeError("graphs is a list of graphs, at least one")
         parts = list(graphs)
-        if not parts or not all(isinstance(it, Graph) for it in parts):
-            raise TypeError("graphs are graphs, at least one")
-        texts = [numeral(share, f"share {number}") for number, share in enumerate(values_of(shares, "shares").values, 1)]
+        found = values_of(shares, "shares")
+        if found.labels is not None:
+            raise TypeError("shares is a list in the order of the graphs, and has no labels")
+        texts = [numeral(share, f"share {number}") for number, share in enumerate(found.values, 1)]
         if len(texts) != len(parts):
             raise ValueError(f"shares has {len(texts)} values, and there are {len(parts)} graphs")
         for number, graph in enumerate(parts, 1):

@@ -14,7 +14,7 @@ DONE, NO, USAGE, MALFORMED, LIMIT, TOO_WIDE, NO_MEMORY, UNREADABLE_WORDS = 0, 1,
 Text = Union[str, bytes]
 
 _NAME = "libwelungad.so"
-_PACKAGE = os.path.dirname(os.path.abspath(__file__))
+PACKAGE = os.path.dirname(os.path.abspath(__file__))
 _ROOM = 7
 _FIRST_ROOM = 65536
 
@@ -24,13 +24,13 @@ _FIRST_ROOM = 65536
 
 def checkout() -> Optional[str]:
     """Returns the top of the checkout that this package lies in, if it lies in one."""
-    top = os.path.dirname(os.path.dirname(_PACKAGE))
+    top = os.path.dirname(os.path.dirname(PACKAGE))
     return top if os.path.isfile(os.path.join(top, "c", "welungad.h")) and os.path.isdir(os.path.join(top, "crates")) else None
 
 
 def prefixes() -> List[str]:
     """Returns the folders that Welungad may be installed below: the one that this package lies in, and Python's own."""
-    above = os.path.dirname(_PACKAGE)
+    above = os.path.dirname(PACKAGE)
     within = os.path.join("share", "welungad", "python")
     own = [above[: -len(within)]] if above.endswith(os.sep + within) else []
     return own + [sys.prefix]
@@ -43,7 +43,7 @@ def places() -> List[str]:
         return [os.path.abspath(named)]
     top = checkout()
     built = [os.path.join(top, "c", "out", _NAME)] if top else []
-    return [os.path.join(_PACKAGE, _NAME), *built, *(os.path.join(prefix, "lib", _NAME) for prefix in prefixes())]
+    return [os.path.join(PACKAGE, _NAME), *built, *(os.path.join(prefix, "lib", _NAME) for prefix in prefixes())]
 
 
 def _found() -> str:

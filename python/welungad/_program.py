@@ -4,11 +4,20 @@ import shutil
 import subprocess
 from typing import List, Sequence, Tuple
 
-from ._library import checkout, hold_to_stamp, prefixes, stamped
+from ._library import PACKAGE, checkout, hold_to_stamp, prefixes, stamped
 from ._refusals import BadAnswer
 
 _NAME = "welungad"
 _STATUSES = range(11)
+
+
+def _recorded() -> List[str]:
+    """Returns the path of the program that was beside the package when its wheel was built, if its stamp has one."""
+    stamp = os.path.join(PACKAGE, "stamp")
+    if not os.path.isfile(stamp):
+        return []
+    with open(stamp, encoding="utf-8") as file:
+        return [line[len("program "):].rstrip("\n") for line in file if line.startswith("program ")]
 
 
 def program_places() -> List[str]:
@@ -18,7 +27,7 @@ def program_places() -> List[str]:
         return [os.path.abspath(named)]
     top = checkout()
     built = [os.path.join(top, "crates", "welungad", "out", _NAME)] if top else []
-    return built + [os.path.join(prefix, "bin", _NAME) for prefix in prefixes()]
+    return built + _recorded() + [os.path.join(prefix, "bin", _NAME) for prefix in prefixes()]
 
 
 def program_path() -> str:

@@ -5,6 +5,7 @@ of an answer passes for a decision.
 """
 import re
 from fractions import Fraction
+from functools import partial
 from typing import Callable, Dict, FrozenSet, List, Mapping, NoReturn, Optional, Tuple, TypeVar
 
 from ._library import DONE, LIMIT, MALFORMED, NO, NO_MEMORY, TOO_WIDE, UNREADABLE_WORDS, USAGE
@@ -129,7 +130,7 @@ def read_whole(command: str, text: str, labels: Mapping[str, str], read: Callabl
     report = Report(command, text, labels)
     try:
         result = read(report)
-    except (ValueError, ZeroDivisionError) as error:
+    except (ValueError, IndexError, ZeroDivisionError) as error:
         report.fail(f"a line of it cannot be read ({error})")
     report.end()
     return result
@@ -156,9 +157,9 @@ def read_decision(report: Report) -> Decision:
         number, *words = report.take("step")
         report.require(number == str(len(steps) + 1), f"step {number} is not in its place")
         steps.append(_tested(report, words))
-    kept = report.take_all("kept", lambda words: _tested(report, words))
+    kept = report.take_all("kept", partial(_tested, report))
     rejected = report.ascending(report.take("rejected"))
-    adjusted = report.take_all("adjusted", lambda words: _adjusted(report, words))
+    adjusted = report.take_all("adjusted", partial(_adjusted, report))
     report.require(set(rejected) == {it.name for it in steps} and len(rejected) == len(steps), "its steps are not what it rejects")
     retained = tuple(name for name in report.all_labels() if name not in rejected)
     report.require(tuple(it.name for it in kept) == retained, "it does not say of each hypothesis whether it is rejected")
@@ -181,10 +182,14 @@ def _weight(report: Report, word: str) -> Tuple[str, Fraction]:
     return report.label(name), Fraction(weight)
 
 
+def _weights(report: Report, words: List[str]) -> Dict[str, Fraction]:
+    return dict(_weight(report, word) for word in words)
+
+
 def read_weights(report: Report) -> Weights:
     """Reads the report of `weights`."""
     (count,) = report.take("weights")
-    sets = report.take_all("set", lambda words: dict(_weight(report, word) for word in words))
+    sets = report.take_all("set", partial(_weights, report))
     _hold_sets(report, count, [frozenset(weights) for weights in sets])
     return Weights({frozenset(weights): weights for weights in sets})
 
@@ -196,7 +201,7 @@ def _bound(report: Report, words: List[str]) -> Tuple[FrozenSet[str], int]:
 
 def _read_bounds(report: Report, word: str) -> Dict[FrozenSet[str], int]:
     (count,) = report.take(word)
-    bounds = report.take_all("bound", lambda words: _bound(report, words))
+    bounds = report.take_all("bound", partial(_bound, report))
     _hold_sets(report, count, [names for names, _ in bounds])
     return dict(bounds)
 
@@ -237,7 +242,7 @@ def _read_listed(report: Report, word: str, further: str) -> Tuple[Listed, ...]:
     items = []
     while report.is_at(word):
         (name,) = report.take(word)
-        items.append(Listed(report.label(name), report.take_all(further, lambda words: _flow(report, words))))
+        items.append(Listed(report.label(name), report.take_all(further, partial(_flow, report))))
     return tuple(items)
 
 
@@ -296,7 +301,7 @@ def read_stages(report: Report) -> Stages:
     arrivals = []
     while report.is_at("arrive"):
         name, stage, p = report.take("arrive")
-        rejections = report.take_all("reject", lambda words: settled(report, words))
+        rejections = report.take_all("reject", partial(settled, report))
         arrivals.append(Arrival(report.label(name), int(stage), Fraction(p), rejections))
     rejected = report.ascending(report.take("rejected"))
     found = [it.name for arrival in arrivals for it in arrival.rejections]

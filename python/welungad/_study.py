@@ -5,6 +5,7 @@ import os
 import secrets
 import tempfile
 from fractions import Fraction
+from functools import partial
 from typing import Any, Iterator, List, NamedTuple, Sequence, Tuple, Union
 
 from ._library import Text, bytes_of, kind_of
@@ -70,7 +71,7 @@ def _read_look(report: Report, asked: _Asked, number: int) -> Reply:
     name, stage, p = report.take("look")
     same = (report.label(name), int(stage), Fraction(p)) == (asked.name, asked.stage, value_of(asked.p))
     report.require(same, f"its look {name} {stage} {p} is not the one that was asked for")
-    return Look(name, int(stage), Fraction(p), report.take_all("reject", lambda words: settled(report, words)))
+    return Look(name, int(stage), Fraction(p), report.take_all("reject", partial(settled, report)))
 
 
 def _read_shown(report: Report) -> Shown:
@@ -185,7 +186,7 @@ class Study:
             words = ["study", path, *(["--store", self.store] if keep else [])]
             text = take_answer("study", *run_program(words, self.case.encode("ascii")))
         labels = {name: name for name in self.names}
-        return read_whole("study", text, labels, lambda report: _read_study(report, self._read.alpha, asked))
+        return read_whole("study", text, labels, partial(_read_study, alpha=self._read.alpha, asked=asked))
 
     # ---- the case beside the file
 

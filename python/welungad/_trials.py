@@ -14,7 +14,9 @@ _OF_A_ROW = (MALFORMED, LIMIT, TOO_WIDE)
 def rows_of_p(given: Any, labels: Sequence[str]) -> List[List[Any]]:
     """Returns the rows of p-values, each in the order of the hypotheses. The messages name the row, from 1."""
     if is_frame(given):
-        columns = frame_labels(given)[1]
+        trials, columns = frame_labels(given)
+        if columns is None and set(trials or ()) & set(labels):
+            raise ValueError("rows: its rows have the labels of hypotheses, and its columns have none: a row is a trial")
         rows = frame_rows(given, "rows")
         if columns is not None:
             places = order_of(columns, labels, "the columns of rows")

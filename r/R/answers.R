@@ -38,9 +38,10 @@ is_refusal <- function(status, lines) {
 read_answer <- function(command, status, lines, case) {
   names <- case$graph$names
   if (status == 1L) return(if (command == "check" && startsWith(lines[1], "no: ") && length(lines) == 1) read_no(lines))
-  if (command %in% c("canon", "catalogue")) return(read_canon(lines, names))
-  if (lines[length(lines)] != "end") return(NULL)
+  if (lines[length(lines)] != "end" && !command %in% c("canon", "catalogue")) return(NULL)
   switch(command,
+    canon = ,
+    catalogue = read_canon(lines, names),
     test = read_test(lines, names),
     weights = read_weights(lines, names),
     bounds = read_bounds(lines, names),
@@ -74,22 +75,30 @@ read_test <- function(lines, names) {
   if (length(lines) != 2L * n + 3L || !startsWith(lines[1], "alpha ")) return(NULL)
   tested <- lines[1L + seq_len(n)]
   count <- sum(startsWith(tested, "step "))
-  steps <- columns_of(tested[seq_len(count)], 7L)
-  kept <- columns_of(tested[seq_len(n) > count], 6L)
-  if (is.null(steps) || is.null(kept) || !all(kept[1, ] == "kept") || !all(steps[2, ] == seq_len(count))) return(NULL)
-  at <- match(names, c(steps[3, ], kept[2, ]))
-  if (anyNA(at) || lines[n + 2L] != rejected_line(names, steps[3, ])) return(NULL)
+  # the places of the words before the first word of each line "step N NAME p P weight W" and "kept NAME p P weight W"
+  steps <- 7L * (seq_len(count) - 1L)
+  kept <- 7L * count + 6L * (seq_len(n - count) - 1L)
+  words <- unlist(strsplit(tested, " ", fixed = TRUE))
+  fixed <- words[c(steps + 1L, steps + 2L, kept + 1L, steps + 4L, kept + 3L, steps + 6L, kept + 5L)]
+  wanted <- c(rep("step", count), seq_len(count), rep("kept", n - count), rep("p", n), rep("weight", n))
+  order <- match(words[steps + 3L], names)
+  at <- match(names, words[c(steps + 3L, kept + 2L)])
+  if (length(words) != count + 6L * n || !identical(fixed, wanted) || anyNA(at)) return(NULL)
+  rejected <- logical(n)
+  rejected[order] <- TRUE
+  if (lines[n + 2L] != paste(c("rejected", names[rejected]), collapse = " ")) return(NULL)
   adjusted <- lines[n + 2L + seq_len(n)]
   begins <- paste0("adjusted ", names, " ")
   if (!all(startsWith(adjusted, begins))) return(NULL)
-  values <- substring(adjusted, nchar(begins) + 1L)
+  values <- substr(adjusted, nchar(begins) + 1L, 1000L)
   reached <- values != "1 not reached"
   values[!reached] <- "1"
   list(
-    alpha = words_after_first(lines[1]),
-    order = match(steps[3, ], names),
-    p = c(steps[5, ], kept[4, ])[at],
-    weight = c(steps[7, ], kept[6, ])[at],
+    alpha = substr(lines[1], 7L, 1000L),
+    order = order,
+    rejected = rejected,
+    p = words[c(steps + 5L, kept + 4L)][at],
+    weight = words[c(steps + 7L, kept + 6L)][at],
     adjusted = values,
     reached = reached
   )

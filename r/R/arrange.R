@@ -27,7 +27,7 @@ fault_of_names <- function(given, keys) {
 
 # A vector, a list, or numbers that were read, in the order of the hypotheses. `count` is how many are needed, if it is known.
 arranged <- function(x, keys, what, count = NULL) {
-  given <- names_in(x)
+  given <- if (inherits(x, "welungad_exact")) x$names else names_in(x)
   if (!is.null(given)) {
     if (length(keys) == 1 && identical(given, keys[[1]])) return(x)
     return(x[places_among(given, keys, what)])
@@ -41,6 +41,7 @@ arranged <- function(x, keys, what, count = NULL) {
 # The numbers of a vector, whatever its class. One row or column of a matrix or of a data frame is a vector, with the names of
 # its other side; so are the columns `hypothesis` and another one of a data frame.
 exact_vector <- function(x, what) {
+  if (is.double(x) && is.null(attributes(x))) return(exact_of(x, what))
   if (is.data.frame(x)) return(vector_of_frame(x, what))
   x <- exact_of(x, what)
   size <- x$dim

@@ -19,21 +19,29 @@ as_double <- function(x) {
   out
 }
 
-# The doubles of numerals in texts, NA for other texts. Parts of at most 15 digits are doubles, and need no gmp.
+# The doubles of numerals in texts, NA for other texts.
 double_of <- function(text) {
-  slash <- regexpr("/", text, fixed = TRUE)
-  has <- which(slash > 0)
-  if (length(has) == 0) return(double_of_decimal(text))
-  n <- substr(text[has], 1L, slash[has] - 1L)
-  d <- substring(text[has], slash[has] + 1L)
-  long <- nchar(n) > 15L | nchar(d) > 15L
-  quotients <- numeric(length(has))
-  quotients[!long] <- as.numeric(n[!long]) / as.numeric(d[!long])
-  if (any(long)) quotients[long] <- as_double(fraction(text[has[long]]))
-  if (length(has) == length(text)) return(quotients)
+  has <- grepl("/", text, fixed = TRUE)
+  if (all(has)) return(double_of_quotient(text))
   out <- numeric(length(text))
-  out[has] <- quotients
-  out[-has] <- double_of_decimal(text[-has])
+  out[has] <- double_of_quotient(text[has])
+  out[!has] <- double_of_decimal(text[!has])
+  out
+}
+
+# Parts of at most 15 digits are doubles, and need no gmp.
+double_of_quotient <- function(text) {
+  if (length(text) == 0) return(numeric())
+  parts <- unlist(strsplit(text, "/", fixed = TRUE))
+  if (length(parts) == 2L * length(text) && max(nchar(parts)) <= 15L) {
+    at <- 2L * seq_along(text)
+    values <- as.numeric(parts)
+    return(values[at - 1L] / values[at])
+  }
+  short <- nchar(text) <= 15L & is_numeral(text)
+  out <- numeric(length(text))
+  if (any(short)) out[short] <- double_of_quotient(text[short])
+  out[!short] <- as_double(fraction(text[!short]))
   out
 }
 

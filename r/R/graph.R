@@ -40,11 +40,15 @@ given_labels <- function(labels, given) {
 }
 
 # A missing number is handed in as NA, which the proved call refuses.
-as_text <- function(read) ifelse(is.na(read), "NA", read)
+as_text <- function(read) {
+  if (anyNA(read)) read[is.na(read)] <- "NA"
+  read
+}
 
-# The texts of numbers as they are handed in: each element is one word.
+# The texts of numbers as they are handed in: each element is one word. Only what was given as a text can be another one.
 number_texts <- function(x, what) {
   texts <- as_text(x$read)
+  if (!any(x$rule == "text")) return(texts)
   wrong <- which(!nzchar(texts) | grepl("[[:space:][:cntrl:]]", texts))
   if (length(wrong)) stop_at(what, place_text(wrong[1], x$names), " is ", quoted(texts[wrong[1]]), ", which is not one number")
   texts
@@ -135,10 +139,13 @@ graph_read <- function(file, form = c("text", "csv", "json"), alpha = NULL) {
 
 graph_canon <- function(graph, p = NULL, alpha = 0.025) ask("canon", case_of(graph, p, alpha))$lines
 
+# The level if none is given, as exact_of reads it.
+level_at_first <- new_exact("0.025", "1/40", "least denominator")
+
 # A case of a graph, its p-values and its level, as it is handed in, with the numbers as they were read.
 case_of <- function(graph, p, alpha) {
   check_graph(graph)
-  level <- exact_of(alpha, "alpha")
+  level <- if (identical(alpha, 0.025)) level_at_first else exact_of(alpha, "alpha")
   case <- list(alpha = level)
   if (!is.null(p)) {
     case$p <- read_p(arranged(exact_vector(p, "p"), hypothesis_keys(graph), "p"), graph)
@@ -160,8 +167,8 @@ level_text_of <- function(level) {
 # P-values in the order of the graph as they are handed in. None is missing. A double whose denominator would pass 10^30 is
 # rounded up to a multiple of 10^-30.
 read_p <- function(p, graph) {
-  missing <- which(is.na(p$read))
-  if (length(missing) && length(p) == length(graph$names)) {
+  if (anyNA(p$read) && length(p$read) == length(graph$names)) {
+    missing <- which(is.na(p$read))
     where <- sprintf("p: the p-value of %s is missing", graph$labels[missing[1]])
     refuse(3L, paste("malformed: case: p missing", graph$names[missing[1]]), where = where)
   }

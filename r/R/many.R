@@ -29,12 +29,12 @@ rows_of_p <- function(P, graph) {
   n <- length(graph$names)
   if (read$dim[2] != n) stop_at("P", whole_text(read$dim[2]), " columns given for ", whole_text(n), " hypotheses")
   columns <- if (is.null(read$dimnames[[2]])) seq_len(n) else places_among(read$dimnames[[2]], hypothesis_keys(graph), "P: columns")
-  texts <- matrix(checked_p(read, graph), read$dim[1], dimnames = list(read$dimnames[[1]], NULL))
+  texts <- matrix(checked_p(read), read$dim[1], n, dimnames = list(read$dimnames[[1]], NULL))
   texts[, columns, drop = FALSE]
 }
 
 # The texts of p-values; the first that is missing or not from 0 to 1 is an error with its row. Small ones are rounded up.
-checked_p <- function(read, graph) {
+checked_p <- function(read) {
   values <- double_of(read$read)
   rows <- read$dim[1]
   wrong <- which(is.na(values) | values < 0 | values > 1)
@@ -61,7 +61,7 @@ decided <- function(case) {
   answer <- welungad_run("test", case$text)
   n <- length(case$graph$names)
   if (answer$status == 5L && is_refusal(5L, whole_lines(answer$text))) return(rep(NA, n))
-  seq_len(n) %in% taken(answer, "test", case)$order
+  taken(answer, "test", case)$rejected
 }
 
 blocks_over <- function(rows) split(seq_len(rows), (seq_len(rows) - 1L) %/% rows_of_block)

@@ -14,6 +14,10 @@ as_exact <- function(x, total = NULL) {
 
 # The numbers of an argument, whatever their class.
 exact_of <- function(x, what) {
+  if (is.double(x) && is.null(attributes(x))) {
+    read <- read_doubles(x, what)
+    return(new_exact(read$given, read$read, read$rule))
+  }
   if (inherits(x, "welungad_exact")) return(x)
   if (is.character(x)) {
     read <- trimws(as.vector(x))

@@ -14,13 +14,11 @@ new_test <- function(report, priority, case) {
     names(x) <- labels
     x
   }
-  rejected <- logical(length(labels))
-  rejected[report$order] <- TRUE
-  structure(list(
+  result <- list(
     graph = graph,
     alpha = report$alpha,
     priority = priority,
-    rejected = named(rejected),
+    rejected = named(report$rejected),
     adjusted = named(double_of(report$adjusted)),
     reached = named(report$reached),
     order = labels[report$order],
@@ -28,13 +26,17 @@ new_test <- function(report, priority, case) {
     read = case$p,
     case = case$text,
     report = report$lines
-  ), class = "welungad_test")
+  )
+  class(result) <- "welungad_test"
+  result
 }
 
 # A data frame of columns of one length, without the checks that take data.frame its time.
 table_of <- function(...) {
   columns <- list(...)
-  structure(columns, class = "data.frame", row.names = .set_row_names(length(columns[[1]])))
+  attr(columns, "row.names") <- .set_row_names(length(columns[[1]]))
+  class(columns) <- "data.frame"
+  columns
 }
 
 # A row for each hypothesis: its p-value, its weight and local level when it was rejected or in the end, and its adjusted

@@ -8,10 +8,9 @@ decimal_text <- function(x, digits) sprintf("%.*g", as.integer(digits), x)
 
 # Fractions of doubles; a whole one has no denominator.
 quotient_of <- function(n, d) {
-  n[which(n == 0)] <- 0
   texts <- sprintf("%.0f/%.0f", n, d)
   whole <- which(d == 1)
-  texts[whole] <- sprintf("%.0f", n[whole])
+  if (length(whole)) texts[whole] <- sprintf("%.0f", n[whole])
   texts
 }
 

@@ -11,6 +11,7 @@
 #ifdef WELUNGAD_LIBRARY
 #include <welungad.h>
 
+/* The room on the stack for an answer. A longer answer is asked for again, with room for it. */
 #define FIRST_ROOM 65536
 
 /* Returns the words, each ended by a byte 0. */
@@ -49,8 +50,8 @@ static SEXP welungad_call(SEXP words, SEXP kase, SEXP proof) {
   if (TYPEOF(words) != STRSXP || TYPEOF(kase) != RAWSXP || TYPEOF(proof) != RAWSXP) error("words, a case and a proof are needed");
   const void *top = vmaxget();
   size_t words_len, case_len, proof_len, needed = 0, room = FIRST_ROOM;
+  uint8_t first[FIRST_ROOM], *out = first;
   const uint8_t *w = joined(words, &words_len), *c = bytes(kase, &case_len), *p = bytes(proof, &proof_len);
-  uint8_t *out = (uint8_t *)R_alloc(room, 1);
   uint8_t status = welungad_run(w, words_len, c, case_len, p, proof_len, out, room, &needed);
   while (status == WELUNGAD_ROOM) {
     room = needed;

@@ -1,5 +1,5 @@
 -- The steps of evidence that `check` says yes to are a legal order.
-use Rattle.std.proofs.Common.{◌≡◌, subst, List, map, Ok}
+use Rattle.std.proofs.Common.{◌≡◌, subst, List, Ok}
 use Rattle.field_core.specs.Arithmetic.{number_zero}
 use Rattle.field_core.specs.Order.{◌≤ε◌}
 use Rattle.field_core.specs.Sets.{whole}

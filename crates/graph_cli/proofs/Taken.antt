@@ -1,5 +1,5 @@
 -- How much is taken of an input.
-use Rattle.std.proofs.Common.{◌≡◌, refl, ℕ, List, [], Option, Some, None, inr, arith}
+use Rattle.std.proofs.Common.{refl, ℕ, List, [], Option, Some, None, inr, arith}
 use Rattle.graph_io.specs.Reading.{TookAtMost}
 use Rattle.graph_cli.specs.Accepted.{IsTakenWithin}
 

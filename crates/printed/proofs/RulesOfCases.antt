@@ -1,5 +1,5 @@
 -- On a case of the graph of a textbook rule, whoever wrote it, `test` reports what the rule rejects at the level of the case.
-use Rattle.std.proofs.Common.{◌≡◌, refl, sym, ap, subst, ◌↔◌, ℕ, suc, pos, ◌<◌, true, List, length, arith}
+use Rattle.std.proofs.Common.{◌≡◌, sym, ap, subst, ◌↔◌, ℕ, suc, pos, List, length, arith}
 use Rattle.std.proofs.lemmas.Int.{ints}
 use Rattle.field_core.specs.Arithmetic.{number_zero}
 use Rattle.field_core.specs.Laws.LimitLaws.{limit-fraction}

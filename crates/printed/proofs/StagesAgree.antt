@@ -1,5 +1,6 @@
 -- What `stages` prints of two cases that differ at most in the order of their arrivals has one line `rejected`.
-use Rattle.std.proofs.Common.{◌≡◌, refl, sym, ap, ap₂, subst, ◌∙◌, ◌↔◌, ℕ, Bool, true, false, cond, List, [], length, fun_ext}
+use mathlib.Core.Path.{fun_ext}
+use Rattle.std.proofs.Common.{◌≡◌, refl, sym, ap, ap₂, subst, ◌∙◌, ◌↔◌, ℕ, Bool, true, false, cond, List, [], length}
 use Rattle.std.specs.Prelude.{◌++◌, codes}
 use Rattle.std.specs.List.{Contains, flat_map, range_with_len}
 use Rattle.answers.specs.Lines.{line}
@@ -13,7 +14,7 @@ use Rattle.case_model.specs.declared.spend.Spend.{Spend}
 use Rattle.case_model.proofs.StagedTests.{staged_more}
 use Rattle.field_core.specs.Number.{Number}
 use Rattle.fraction.specs.View.{number_of}
-use Rattle.report.specs.StagesReport.{is_settled, name_if_settled, settled_line}
+use Rattle.report.specs.StagesReport.{is_settled, settled_line}
 use Rattle.report.specs.TestReport.{spaced_name}
 use Rattle.staged_levels.specs.Looks.{arrivals_of}
 use Rattle.staged_levels.specs.declared.event.Settled.{Settled}

@@ -16,10 +16,9 @@ use Rattle.case_model.specs.Content.{Content, content_of, given, inputs_of, is_p
 use Rattle.case_model.specs.Draft.{ArePValues, is_p_value, is_short_p_value, is_unit}
 use Rattle.case_model.specs.ValidDraft.{IsValidDraft, HasWrittenSums, AreValidPlaces}
 use Rattle.case_model.specs.Validity.{FaultlessDraft, IsValidContent}
-use Rattle.case_model.proofs.DraftTests.{all_each}
-use Rattle.case_model.proofs.DraftValidity.{unit_of}
+use Rattle.case_model.proofs.DraftTests.{all_each, unit_of}
+use Rattle.case_model.proofs.DraftValidity.{valid_draft, written_sums, no_fault}
 use Rattle.case_model.proofs.Faultless.{no_arrivals}
-use Rattle.case_model.proofs.FaultlessDrafts.{valid_draft, written_sums, no_fault}
 use Rattle.case_model.proofs.Holding.{both}
 use Rattle.case_model.proofs.ValidContents.{shape_of_draft}
 use Rattle.case_model.specs.Sums.{number_at, ratio_at, zero_ratio}

@@ -20,6 +20,8 @@ mod graphs;
 #[cfg(test)]
 mod orders;
 #[cfg(test)]
+mod rows;
+#[cfg(test)]
 mod simes;
 #[cfg(test)]
 mod studies;

@@ -1,10 +1,10 @@
 mod Answers
-mod ByTheRules
+pub mod ByTheRules
 mod Near
 mod Neighbours
 mod Quarters
 mod Readable
 mod Steps
 mod Unique
-mod Units
+pub mod Units
 mod Wide

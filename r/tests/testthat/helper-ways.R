@@ -16,6 +16,7 @@ share_of <- function(way, all, few) if (way == "library" || nzchar(Sys.getenv("W
 
 # Runs code with another program in place of Welungad.
 with_program <- function(program, code) {
+  force(program)
   old <- Sys.getenv("WELUNGAD", NA)
   wish <- options(welungad.way = "program")
   on.exit({

@@ -87,7 +87,7 @@ vector_forms <- list(
   column = function(text, double, labels, order) matrix(text[order], ncol = 1, dimnames = list(labels[order], "value")),
   plain_column = function(text, double, labels, order) matrix(double, ncol = 1),
   integer64 = function(text, double, labels, order) {
-    if (all(double %in% 0:1)) stats::setNames(whole_bits(double), labels)[order] else double
+    if (all(double %in% 0:1)) stats::setNames(whole_bits(double[order]), labels[order]) else double
   }
 )
 
@@ -98,7 +98,7 @@ square_forms <- list(
   shuffled = function(text, double, labels, order) structure(double, dimnames = list(labels, labels))[order, rev(order)],
   shuffled_text = function(text, double, labels, order) structure(text, dimnames = list(labels, labels))[rev(order), order],
   exact = function(text, double, labels, order) as_exact(structure(double, dimnames = list(labels, labels))[order, order]),
-  fractions = function(text, double, labels, order) matrix(exact_fractions(as.vector(text)), nrow(text)),
+  fractions = function(text, double, labels, order) gmp::matrix(exact_fractions(as.vector(text)), nrow(text)),
   frame = function(text, double, labels, order) {
     frame <- frame_of(lapply(order, function(j) double[order, j]), labels[order])
     row.names(frame) <- labels[order]

@@ -44,6 +44,10 @@ test_that("numbers without a value are refused", {
   expect_error(as_exact(TRUE), "doubles, integers, texts")
 })
 
+test_that("the level that is not given is the one that is read", {
+  expect_equal(unclass(welungad:::level_at_first), unclass(as_exact(0.025)))
+})
+
 test_that("texts and exact fractions stay as they are", {
   expect_equal(read(c("1/3", "0.1", "1-\\epsilon")), c("1/3", "0.1", "1-\\epsilon"))
   expect_equal(read(gmp::as.bigq(c(1, 2), c(3, 4))), c("1/3", "1/2"))

@@ -1,0 +1,93 @@
+//! Rows one after another.
+ghost use Rattle.std.specs.Prelude.{◌≡◌, ◌<◌, ◌↔◌, ◌*◌, IsTrue, length, Ok, OnOk, OnErr, IfErr};
+ghost use Rattle.case_model.specs.CaseView.{content};
+ghost use Rattle.entangled.specs.CaseNetView.{case_state};
+ghost use Rattle.entangled.specs.CaseRun.{case_opening};
+ghost use Rattle.sequential.specs.OtherPValues.{IsTrialOfGraph};
+ghost use Rattle.sequential.specs.TrialView.{trial};
+ghost use Rattle.trial_rows.specs.Rows.{AreRows, AreRowsTested, IsRowsFault};
+
+use crate::RowsFault;
+use crate::row::test_row;
+use case_model::Case;
+use entangled::CaseNet;
+use field_core::Number;
+use fraction::Fraction;
+use sequential::Trial;
+use std::alloc::Global;
+
+/// Whether there are a double and a mark for each of `size` hypotheses in each row.
+fn are_rows(size: usize, doubles: usize, marks: usize, rows: usize) -> bool
+    ensures { IsTrue result ↔ AreRows size doubles marks rows }
+{
+    if marks != doubles {
+        return false;
+    }
+    match rows.checked_mul(size) {
+        Some(all) => doubles == all,
+        None => false,
+    }
+}
+
+/// Decides each row. `p_values` has room for those of one row.
+fn test_each(
+    case: &Case,
+    opened: &CaseNet,
+    first: Trial,
+    p_values: &mut [Fraction],
+    p: &[u64],
+    rejected: &mut [u8],
+    statuses: &mut [u8],
+)
+    requires opened { case_opening (content case.now) ≡ Ok (case_state opened.now) }
+    requires graph { IsTrialOfGraph (content case.now) (trial first) }
+    requires room { length p_values.old ≡ length (content case.now).names }
+    requires rows { AreRows (length (content case.now).names) (length p.now) (length rejected.old) (length statuses.old) }
+    ensures { AreRowsTested (content case.now) p.now rejected.new statuses.new }
+{
+    let size = case.size();
+    let mut current = first;
+    for row in 0..statuses.len() {
+        let start = row * size;
+        let end = start + size;
+        let (next, status) = test_row(
+            case,
+            opened,
+            current,
+            &p[start..end],
+            p_values,
+            &mut rejected[start..end],
+        );
+        current = next;
+        statuses[row] = status;
+    }
+}
+
+/// Decides a case with each of many rows of p-values in place of its own; it may have none.
+///
+/// `p` has the bits of the doubles, and `rejected` a mark for each hypothesis, both row by row. `statuses` has a status for each
+/// row. A row whose doubles can all be read is decided with the readings. Its status is then 0, and its marks are 1 for the
+/// hypotheses that the closed test rejects and 0 for the others. The status is 3 if a double has no reading, and 5 if the run is
+/// undefined; all marks of the row are then 0. If no row is decided, nothing is written.
+pub fn test_rows(
+    alloc: Global,
+    case: &Case,
+    p: &[u64],
+    rejected: &mut [u8],
+    statuses: &mut [u8],
+) -> Result<(), RowsFault>
+    ensures fit { OnOk result (AreRows (length (content case.now).names) (length p.now) (length rejected.old) (length statuses.old)) }
+    ensures rows { OnOk result (AreRowsTested (content case.now) p.now rejected.new statuses.new) }
+    ensures fault { IfErr result (IsRowsFault (content case.now) (length p.now) (length rejected.old) (length statuses.old)) }
+    ensures rejected { OnErr result (rejected.new ≡ rejected.old) }
+    ensures statuses { OnErr result (statuses.new ≡ statuses.old) }
+{
+    if !are_rows(case.size(), p.len(), rejected.len(), statuses.len()) {
+        return Err(RowsFault::Lengths);
+    }
+    let mut p_values = vec![in alloc; Fraction::zero(); case.size()]?;
+    let first = Trial::open_with(alloc, case, &p_values)?;
+    let opened = CaseNet::load(alloc, case)?;
+    test_each(case, &opened, first, &mut p_values, p, rejected, statuses);
+    Ok(())
+}
