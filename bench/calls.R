@@ -1,11 +1,12 @@
 # calls.R PROGRAM: microseconds a decision takes from R, on Holm's graph of 3, 16 and 64 hypotheses, side by side:
 # - in process, the proved call alone (welungad_run on a text that is there);
 # - in process, graph_test, which also reads R's numbers and makes a table of the answer;
+# - in process, a row of graph_test_many, which makes no table;
 # - by the program, started for each call;
 # - by the algorithm in plain R with doubles, decision and adjusted p-values, which proves and refuses nothing: by loops, and
 #   by whole matrices.
 # Each number is the least of five rounds, elapsed. The package `welungad` has to be installed with the C library for the first
-# two; without it they are NA. The gate requires none of these figures.
+# three; without it they are NA. The gate requires none of these figures.
 library(welungad)
 
 program <- commandArgs(TRUE)
@@ -83,6 +84,7 @@ row <- function(n) {
   edges <- matrix(1 / (n - 1), n, n)
   diag(edges) <- 0
   p <- round(seq(0.0001, 0.0003, length.out = n), 6)
+  rows <- matrix(p, 20, n, byrow = TRUE)
   graph <- graph_create(weights, edges)
   case <- charToRaw(welungad:::case_of(graph, p, 0.025)$text)
   decided <- graph_test(graph, p)
@@ -93,6 +95,7 @@ row <- function(n) {
     hypotheses = n,
     call = by("library", function() welungad_run("test", case)),
     graph_test = by("library", function() graph_test(graph, p)),
+    many = by("library", function() graph_test_many(graph, rows)) / nrow(rows),
     program = by("program", function() welungad_run("test", case)),
     plain = least(function() plain(weights, edges, p, 0.025)),
     matrices = least(function() plain_by_matrices(weights, edges, p, 0.025))
@@ -100,6 +103,6 @@ row <- function(n) {
 }
 
 table <- do.call(rbind, lapply(c(3, 16, 64), row))
-names(table) <- c("hypotheses", "in process", "graph_test", "program started", "plain R, loops", "plain R, matrices")
+names(table) <- c("hypotheses", "in process", "graph_test", "a row of many", "program started", "plain R, loops", "plain R, matrices")
 cat("microseconds a decision\n")
 print(format(table, digits = 3), row.names = FALSE)

@@ -60,6 +60,14 @@ room=$(mktemp -d)
 trap 'rm -rf "$room"' EXIT
 cp -R "$here" "$room/welungad"
 cd "$room"
+
+# An installation with a folder that has no library fails.
+for variable in WELUNGAD_PREFIX WELUNGAD_INCLUDE WELUNGAD_LIB; do
+    if (cd welungad && unset WELUNGAD_PREFIX WELUNGAD_INCLUDE WELUNGAD_LIB && env "$variable=$room" ./configure) >/dev/null 2>&1; then
+        echo "r/run_tests.sh: configure accepts $variable without a library"
+        exit 1
+    fi
+done
 R CMD build ${without:+--no-build-vignettes} welungad >build.log 2>&1 || { cat build.log; exit 1; }
 
 # The check wants none of the package index, and runs the tests.

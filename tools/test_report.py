@@ -18,7 +18,7 @@ from fractions import Fraction
 
 TOOLS = os.path.dirname(os.path.abspath(__file__))
 TOP = os.path.dirname(TOOLS)
-sys.path[:0] = [TOOLS, os.path.join(TOP, "bench"), os.path.join(TOP, "python")]
+sys.path[:0] = [TOOLS, os.path.join(TOP, "bench"), os.path.join(TOP, "python", "tests")]
 
 import acceptance_rows  # noqa: E402
 import check_evidence  # noqa: E402

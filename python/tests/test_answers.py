@@ -45,6 +45,9 @@ class Whole(unittest.TestCase):
     def test_a_part_of_an_answer(self):
         for command, text, function in WHOLE:
             lines = text.splitlines(True)
+            for begun in [text[:-4], text[:-1], text[: len(text) // 2], ""]:
+                with self.subTest((command, begun)), self.assertRaises(welungad.BadAnswer):
+                    _reports.take_answer(command, 0, begun.encode())
             for count in range(len(lines)):
                 with self.subTest((command, count)), self.assertRaises(welungad.BadAnswer):
                     read(command, "".join(lines[:count]), function)

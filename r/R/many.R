@@ -11,7 +11,9 @@ graph_test_many <- function(graph, P, alpha = 0.025) {
   progress <- progress_over(nrow(P))
   on.exit(progress$close())
   for (rows in blocks_over(nrow(P))) {
-    out[rows, ] <- decided_rows(graph, level, P[rows, , drop = FALSE])
+    block <- decided_rows(graph, level, P[rows, , drop = FALSE])
+    done <- block$statuses == 0L
+    out[rows[done], ] <- block$rejected[done, ]
     progress$at(max(rows))
   }
   report_wide(out)
@@ -47,21 +49,22 @@ checked_p <- function(read) {
   number_texts(round_small(read, paste("row", rep(whole_text(seq_len(rows)), read$dim[2]))), "P")
 }
 
-# Decides some rows: a logical matrix, in which a row that is too wide is NA.
+# Decides a block of rows. Returns a logical matrix of the rejected, and a status for each row: 0, or 5 if it is too wide.
 decided_rows <- function(graph, level, texts) {
   parts <- graph_text(graph)
-  cases <- paste0("alpha ", level, "\n", parts$head, "p ", do.call(paste, lapply(seq_len(ncol(texts)), function(j) texts[, j])), "\n", parts$body)
-  out <- matrix(NA, nrow(texts), ncol(texts))
-  for (i in seq_along(cases)) out[i, ] <- decided(handed(cases[i], graph))
+  p <- do.call(paste, lapply(seq_len(ncol(texts)), function(j) texts[, j]))
+  cases <- paste0("alpha ", level, "\n", parts$head, "p ", p, "\n", parts$body)
+  out <- list(rejected = matrix(FALSE, nrow(texts), ncol(texts)), statuses = integer(nrow(texts)))
+  for (i in seq_along(cases)) {
+    case <- handed(cases[i], graph)
+    answer <- welungad_run("test", case$text)
+    if (answer$status == 5L && is_refusal(5L, whole_lines(answer$text))) {
+      out$statuses[i] <- 5L
+    } else {
+      out$rejected[i, ] <- taken(answer, "test", case)$rejected
+    }
+  }
   out
-}
-
-# Which hypotheses of a case are rejected; NA for all if the case is too wide.
-decided <- function(case) {
-  answer <- welungad_run("test", case$text)
-  n <- length(case$graph$names)
-  if (answer$status == 5L && is_refusal(5L, whole_lines(answer$text))) return(rep(NA, n))
-  taken(answer, "test", case)$rejected
 }
 
 blocks_over <- function(rows) split(seq_len(rows), (seq_len(rows) - 1L) %/% rows_of_block)

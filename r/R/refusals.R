@@ -116,37 +116,37 @@ refuse_case <- function(status, line, case) {
 place_table <- rbind(
   c("^alpha$", "alpha", "the level"),
   c("^share component (\\S+)$", "shares", "the share of graph %s"),
-  c("^share sum$", "shares", "the sum of the shares"),
-  c("^weight count component \\S+$", "hypotheses", "the number of the weights"),
+  c("^share sum$", "shares", "the shares sum to more than 1"),
+  c("^weight count component \\S+$", "hypotheses", "the number of the weights is not that of the hypotheses"),
   c("^weight of (\\S+) component \\S+$", "hypotheses", "the weight of %s"),
-  c("^weight sum component \\S+$", "hypotheses", "the sum of the weights"),
-  c("^self edge of (\\S+) component \\S+$", "transitions", "the edge from %s to itself"),
-  c("^(?:repeated )?edge (\\S+) (\\S+) component \\S+$", "transitions", "the edge from %s to %s"),
-  c("^row sum of (\\S+) component \\S+$", "transitions", "the sum of the edges from %s"),
-  c("^p count \\S+$", "p", "the number of the p-values"),
+  c("^weight sum component \\S+$", "hypotheses", "the weights sum to more than 1"),
+  c("^self edge of (\\S+) component \\S+$", "transitions", "the edge from %s to itself is not 0"),
+  c("^(?:repeated )?edge (\\S+) (\\S+) component \\S+$", "transitions", "the edge from %s to %s is not from 0 to 1"),
+  c("^row sum of (\\S+) component \\S+$", "transitions", "the edges from %s sum to more than 1"),
+  c("^p count \\S+$", "p", "the number of the p-values is not that of the hypotheses"),
   c("^p missing (\\S+)$", "p", "the p-value of %s is missing"),
   c("^p of (\\S+)$", "p", "the p-value of %s"),
-  c("^no stage$", "levels", "the number of stages"),
-  c("^spend count (\\S+)$", "levels", "the number of the levels of hypothesis %s"),
-  c("^step (\\S+) of (\\S+)$", "levels", "the weight of row %s of %s"),
-  c("^spend of (\\S+) stage (\\S+)$", "levels", "the level of %s at stage %s"),
-  c("^spend sum of (\\S+)$", "levels", "the sum of the levels of %s"),
-  c("^arrival (\\S+)(?: stage| repeated| p)?$", "looks", "row %s"),
-  c("^(?:duplicate )?name (\\S+)$", "hypotheses", "the name of hypothesis %s"),
-  c("^no hypothesis$", "hypotheses", "the number of hypotheses")
+  c("^no stage$", "levels", "the number of stages is 0"),
+  c("^spend count (\\S+)$", "levels", "the number of the levels of hypothesis %s is not that of the stages"),
+  c("^step (\\S+) of (\\S+)$", "levels", "the weight of row %s of %s is out of order"),
+  c("^spend of (\\S+) stage (\\S+)$", "levels", "the level of %s at stage %s is out of order"),
+  c("^spend sum of (\\S+)$", "levels", "the levels of %s sum to more than its own"),
+  c("^arrival (\\S+)(?: stage| repeated| p)?$", "looks", "row %s is not allowed"),
+  c("^(?:duplicate )?name (\\S+)$", "hypotheses", "the name of hypothesis %s is not allowed"),
+  c("^no hypothesis$", "hypotheses", "there is none")
 )
 
 # Left: whole lines, or their beginnings. Right: the argument, and what it is about.
 argument_table <- rbind(
-  c("^limit: hypotheses ", "hypotheses", "the number of hypotheses"),
-  c("^limit: components ", "...", "the number of graphs"),
-  c("^limit: (stages|spend steps) ", "levels", "the number of stages or rows"),
-  c("^limit: closure ", "graph", "the number of hypotheses"),
-  c("^limit: size ", "size", "the number of hypotheses"),
-  c("^malformed: proof line ", "evidence", "the document"),
-  c("^limit: proof bytes ", "evidence", "the length of the document"),
-  c("^malformed: record ", "store", "the file of the looks"),
-  c("^keeper fault", "store", "the file of the looks"),
+  c("^limit: hypotheses ", "hypotheses", "there are too many"),
+  c("^limit: components ", "...", "there are too many graphs"),
+  c("^limit: (stages|spend steps) ", "levels", "there are too many stages or rows"),
+  c("^limit: closure ", "graph", "it has too many hypotheses"),
+  c("^limit: size ", "size", "there are too many hypotheses, or none"),
+  c("^malformed: proof line ", "evidence", "a line is not allowed"),
+  c("^limit: proof bytes ", "evidence", "it is too long"),
+  c("^malformed: record ", "store", "the file has a look that is not of this case"),
+  c("^keeper fault", "store", "the file cannot be opened or written"),
   c("^too wide: ", "graph", "its numbers become too wide")
 )
 
@@ -224,7 +224,7 @@ culprit <- function(words, kind) {
 # The sentences with the amount of a sum above its bound, and the doubles beside fractions in it; "" for any other line.
 amount_of <- function(line, case) {
   graph <- case$graph
-  if (line == "limit: case: part alpha") return(paste0(beside_sentences(alpha_of(case)), if (any(nzchar(beside_sentences(alpha_of(case))))) "."))
+  if (line == "limit: case: part alpha") return(sentence_of(beside_sentences(alpha_of(case))))
   if (is.null(graph) || !grepl("^malformed: case: (share|weight|row|spend) sum", line)) return("")
   words <- strsplit(sub("^malformed: case: ", "", line), " ", fixed = TRUE)[[1]]
   component <- graph$components[[if ("component" %in% words) as.integer(words[length(words)]) else 1L]]
@@ -235,6 +235,8 @@ amount_of <- function(line, case) {
     spend = levels_sentence(words[4], case)
   )
 }
+
+sentence_of <- function(parts) if (length(parts)) paste0(listed(parts, 3L), ".") else ""
 
 alpha_of <- function(case) words_after(strsplit(as_text_of(case$text), "\n", fixed = TRUE)[[1]], "alpha")
 
@@ -254,7 +256,7 @@ cure_of_sum <- function(texts, bound, argument) {
   found <- beside(texts)$fraction
   meant <- sum_of(fraction(ifelse(is.na(found), texts, found)))
   c(
-    paste0("Of the doubles, ", listed(sentences, 3L), "."),
+    sentence_of(sentences),
     if (meant == bound && !is.null(argument)) sprintf("as_exact(%s, total = %s) reads them as the fractions that sum to %s.", argument,
       as.character(bound), as.character(bound))
   )

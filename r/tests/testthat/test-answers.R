@@ -8,6 +8,7 @@ test_that("only the whole answer to the command is taken", {
     expect_equal(taken(report)$rejected, c(H1 = TRUE, H2 = FALSE))
     for (program in c("/bin/true", "/bin/cat")) with_program(program, expect_error(graph_test(graph, p), fault))
     expect_error(taken(report[report != "end"]), fault)
+    expect_error(taken(c(report[report != "end"], "more")), fault)
     expect_error(taken(report, end = ""), fault)
     expect_error(taken(report[-2]), fault)
     expect_error(taken(report[-1]), fault)

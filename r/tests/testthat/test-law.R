@@ -44,7 +44,13 @@ random_case <- function() {
   )
 }
 
-exact_fractions <- function(texts) do.call(c, lapply(texts, function(text) welungad:::numeral_value(text)))
+# The fractions of texts "N/D", "N" and "0.DIGITS", without the package.
+exact_fractions <- function(texts) {
+  decimal <- startsWith(texts, "0.")
+  digits <- substring(texts[decimal], 3)
+  texts[decimal] <- paste0(sub("^0+([0-9])", "\\1", digits), "/1", strrep("0", nchar(digits)))
+  gmp::as.bigq(texts)
+}
 
 tibble_of <- function(frame) structure(frame, class = c("tbl_df", "tbl", "data.frame"), row.names = .set_row_names(nrow(frame)))
 
@@ -176,14 +182,14 @@ is_told <- function(case) {
     told(graph_create(named(case$weights), case$edges$double, labels = twice))
 }
 
-# Whether an answer that lacks a line, or is another case's, is an error.
+# Whether an answer that lacks a line, has another end, or is another case's, is an error.
 is_whole <- function(case) {
   graph <- graph_create(stats::setNames(case$weights$double, case$labels), case$edges$double)
   x <- graph_test(graph, case$p$double)
   answers <- function(lines) with_program(stand_in(lines), tryCatch(graph_test(graph, case$p$double), error = function(e) NULL))
   other <- gsub(graph$names[1], "other", x$report, fixed = TRUE)
   identical(answers(x$report)$rejected, x$rejected) && is.null(answers(x$report[-sample(length(x$report), 1)])) &&
-    is.null(answers(x$report[-length(x$report)])) && (identical(other, x$report) || is.null(answers(other)))
+    is.null(answers(x$report[-length(x$report)])) && is.null(answers(c(x$report[-length(x$report)], "more"))) && (identical(other, x$report) || is.null(answers(other)))
 }
 
 test_that("what was given is what was decided, or an error", {
