@@ -59,8 +59,8 @@ read_doubles <- function(x, what, names = NULL) {
   given <- sprintf("%.15g", x)
   read <- quotient_of(found$n, found$d)
   rule <- rep("least denominator", length(x))
-  other <- which(is.na(found$d))
-  if (length(other)) {
+  if (anyNA(found$d)) {
+    other <- which(is.na(found$d))
     refuse_valueless(x, what, names)
     missing <- other[is.na(x[other])]
     other <- setdiff(other, missing)
