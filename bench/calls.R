@@ -84,7 +84,7 @@ row <- function(n) {
   edges <- matrix(1 / (n - 1), n, n)
   diag(edges) <- 0
   p <- round(seq(0.0001, 0.0003, length.out = n), 6)
-  rows <- matrix(p, 20, n, byrow = TRUE)
+  rows <- matrix(p, if (n < 64) 200 else 20, n, byrow = TRUE)
   graph <- graph_create(weights, edges)
   case <- charToRaw(welungad:::case_of(graph, p, 0.025)$text)
   decided <- graph_test(graph, p)

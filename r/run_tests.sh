@@ -46,11 +46,11 @@ export WELUNGAD_EXAMPLES="$top/examples"
 
 # the vignettes
 vignettes=yes
-command -v pandoc >/dev/null || vignettes=
+command -v pandoc >/dev/null || vignettes=''
 for package in knitr rmarkdown; do
-    has_package "$package" || vignettes=
+    has_package "$package" || vignettes=''
 done
-without=
+without=''
 if [ -z "$vignettes" ]; then
     echo "r/run_tests.sh: the vignettes are left out, since knitr, rmarkdown or pandoc is missing"
     without=yes

@@ -2,7 +2,7 @@
 # case. Whatever else the program that was started prints is an error.
 
 # Makes a call for a case, and returns its answer, read. A refusal becomes a condition.
-ask <- function(words, case, proof = "") {
+ask <- function(words, case, proof = raw()) {
   taken(welungad_run(words, case$text, proof), words[1], case)
 }
 

@@ -59,8 +59,8 @@ read_doubles <- function(x, what, names = NULL) {
   given <- sprintf("%.15g", x)
   read <- quotient_of(found$n, found$d)
   rule <- rep("least denominator", length(x))
-  other <- which(is.na(found$d))
-  if (length(other)) {
+  if (anyNA(found$d)) {
+    other <- which(is.na(found$d))
     refuse_valueless(x, what, names)
     missing <- other[is.na(x[other])]
     other <- setdiff(other, missing)
@@ -84,12 +84,25 @@ refuse_valueless <- function(x, what, names) {
 shortest_decimals <- function(x) {
   texts <- sprintf("%.15g", x)
   for (digits in 16:17) {
+    texts <- or_next_decimals(texts, x, digits - 1L)
     longer <- which(as.numeric(texts) != x)
     if (length(longer)) texts[longer] <- decimal_text(x[longer], digits)
   }
   # below the least normal double fewer digits can be enough
   small <- which(abs(x) < .Machine$double.xmin & x != 0)
   texts[small] <- vapply(x[small], shortest_of_small, "")
+  texts
+}
+
+# Below a power of two the doubles are nearer to it than above, so the nearest decimal can be read back as another double, and the
+# next one with as many digits as the power of two.
+or_next_decimals <- function(texts, x, digits) {
+  for (i in which(as.numeric(texts) != x & abs(x) == 2^round(log2(abs(x))))) {
+    parts <- strsplit(sprintf("%.*e", digits - 1L, abs(x[i])), "e", fixed = TRUE)[[1]]
+    whole <- as.character(gmp::as.bigz(sub(".", "", parts[1], fixed = TRUE)) + 1L)
+    above <- paste0(if (x[i] < 0) "-", whole, "e", as.integer(parts[2]) - digits + 1L)
+    if (as.numeric(above) == x[i]) texts[i] <- above
+  }
   texts
 }
 

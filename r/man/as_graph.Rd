@@ -24,7 +24,10 @@ A graph of class \code{welungad_graph}.
 \examples{
 \dontshow{if (welungad_found()) withAutoprint(\{ # examples need the program or its library}
 theirs <- structure(
-  list(hypotheses = c(H1 = 0.5, H2 = 0.5), transitions = rbind(H1 = c(H1 = 0, H2 = 1), H2 = c(1, 0))),
+  list(
+    hypotheses = c(H1 = 0.5, H2 = 0.5),
+    transitions = rbind(H1 = c(H1 = 0, H2 = 1), H2 = c(1, 0))
+  ),
   class = "initial_graph"
 )
 as_graph(theirs)

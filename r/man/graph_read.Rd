@@ -21,7 +21,11 @@ A list with \code{graph}, \code{alpha}, \code{p} (exact texts, or \code{NULL}) a
 \examples{
 \dontshow{if (welungad_found()) withAutoprint(\{ # examples need the program or its library}
 file <- tempfile()
-writeLines(c("alpha 0.05", "hypotheses A B", "p 0.02 0.04", "weights 1/2 1/2", "edge A B 1", "edge B A 1"), file)
+lines <- c(
+  "alpha 0.05", "hypotheses A B", "p 0.02 0.04",
+  "weights 1/2 1/2", "edge A B 1", "edge B A 1"
+)
+writeLines(lines, file)
 case <- graph_read(file)
 graph_test(case$graph, case$p, case$alpha)
 unlink(file)

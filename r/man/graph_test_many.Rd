@@ -33,8 +33,9 @@ whose numbers become too wide is a row of \code{NA}, with a warning of class \co
 graph <- graph_create(c(low = 1 / 2, high = 1 / 2), rbind(0:1, 1:0))
 set.seed(1)
 trials <- 100
-control <- rnorm(trials)
-statistics <- cbind(low = 2, high = 3) [rep(1, trials), ] + (matrix(rnorm(2 * trials), trials) + control) / sqrt(2)
+shift <- c(low = 2, high = 3)
+common <- rnorm(trials)
+statistics <- t(shift + t((matrix(rnorm(2 * trials), trials) + common) / sqrt(2)))
 rejected <- graph_test_many(graph, pnorm(statistics, lower.tail = FALSE), alpha = 0.025)
 colMeans(rejected)
 mean(rowSums(rejected) > 0)

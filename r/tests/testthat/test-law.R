@@ -137,7 +137,8 @@ damages <- list(
 
 given_in <- function(forms, numbers, labels) {
   form <- sample(names(forms), 1)
-  list(form = form, value = forms[[form]](numbers$text, numbers$double, labels, sample(length(labels))))
+  # a decimal can be one that R writes for a fraction, which is a warning
+  list(form = form, value = suppressWarnings(forms[[form]](numbers$text, numbers$double, labels, sample(length(labels)))))
 }
 
 # What was decided, read back from the text that was handed in: level, p-values, weights and edges by label.
@@ -157,7 +158,6 @@ holds <- function(case) {
   weights <- given_in(vector_forms, case$weights, labels)
   edges <- given_in(square_forms, case$edges, labels)
   p <- given_in(vector_forms, case$p, labels)
-  # a decimal can be one that R writes for a fraction, which is a warning
   x <- suppressWarnings(graph_test(graph_create(weights$value, edges$value, hyp_names = labels), p$value, case$alpha$double))
   own <- read_back(x)
   shown <- as.data.frame(x, exact = TRUE)
