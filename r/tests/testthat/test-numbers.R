@@ -34,6 +34,11 @@ test_that("another double is read as the shortest decimal that is read back", {
   expect_true(all(shorter))
 })
 
+test_that("a power of two is read as the shortest decimal, also if the nearest one is read back as another double", {
+  expect_equal(read(c(2^-24, 2^-44)), c("5960464477539063e-23", "5684341886080802e-29"))
+  expect_equal(read(c(-2^-24, 2^-30)), c("-5960464477539063e-23", "9.313225746154785e-10"))
+})
+
 test_that("numbers without a value are refused", {
   for (x in list(NaN, Inf, -Inf)) {
     refusal <- refusal_of(as_exact(x))
