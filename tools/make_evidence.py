@@ -10,7 +10,7 @@ standard error. It shares no code with `welungad`, nor with check_evidence.py, w
 
 In a graph, let K be the inverse of I - G, with G the edges among the removed hypotheses that pass weight on. Then y = w K is what
 passes through each of them, h = K g_k is the part of the weight of each that arrives at k, and k has the weight w_k + sum y_r g_rk.
-These y are the flows, and these h the exits, of the conditions in docs/FORMATS.md. K is kept as adjugate and determinant of I - G
+These y are the flows, and these h the exits, of the conditions in docs/REPORTS.md. K is kept as adjugate and determinant of I - G
 with whole rows. A removed hypothesis to which all of its weight would come back passes nothing on: its flows and exits are 0.
 """
 import re

@@ -2,7 +2,7 @@
 
 Each reader takes the text that a command printed and the names of the hypotheses of its case. A text that is not the whole report
 of this command on these hypotheses raises `NotAReport`, so that neither a refusal nor the report of another command or case is
-taken for a decision. docs/FORMATS.md has the reports.
+taken for a decision. docs/REPORTS.md has the reports.
 """
 import re
 from collections import namedtuple

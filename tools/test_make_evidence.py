@@ -1,4 +1,4 @@
-"""Tests of make_evidence.py. `tools/run_tests.sh` runs them. Expected documents are by hand, from the conditions in docs/FORMATS.md."""
+"""Tests of make_evidence.py. `tools/run_tests.sh` runs them. Expected documents are by hand, from the conditions in docs/REPORTS.md."""
 import os
 import random
 import subprocess

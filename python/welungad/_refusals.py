@@ -29,7 +29,8 @@ _EXPLANATIONS = [
     ("usage: word N", "This word of the call, counted from 1, is unknown, repeated, missing, or forbidden by another word. A sheet "
                       "needs alpha, and the other forms forbid it."),
     ("malformed: line N: unexpected", "The first word is not allowed here, or the name in a line spend or table is not that of the "
-                                      "next hypothesis. Keep the order: alpha, hypotheses, p, weights, edge, stages, spend, arrive."),
+                                      "next hypothesis. Keep the order: alpha, hypotheses, p, component, weights, edge, stages, spend or table, "
+                                      "arrive."),
     ("malformed: line N: ended", "The text ends where a line must follow. Add what is missing."),
     ("malformed: line N: words", "The line has too few or too many words."),
     ("malformed: line N: whole number", "The number of stages, or of a stage, is not 1 to 9 digits."),

@@ -48,7 +48,7 @@ refusal_table <- c(
   "^malformed: row [0-9]+ column [0-9]+: width$" = "Give this row as many fields as the header has.",
   "^malformed: row [0-9]+ column [0-9]+: name$" = "Keep the order of the header.",
   "^malformed: proof line [0-9]+: " = "Use the evidence of this case, as it was printed.",
-  "^malformed: .*: unexpected$" = "Keep the order: alpha, hypotheses, p, weights, edge, stages, spend, arrive.",
+  "^malformed: .*: unexpected$" = "Keep the order: alpha, hypotheses, p, component, weights, edge, stages, spend or table, arrive.",
   "^malformed: .*: ended$" = "Add what is missing.",
   "^malformed: .*: words$" = "Give this line the number of words that it needs.",
   "^malformed: .*: shape$" = "Give this place the kind of JSON value that it needs, and only known keys.",
