@@ -732,7 +732,8 @@ class Configure(Room):
         """Whether the package calls the program if no variable is set, and nothing stays that was compiled with the library."""
         for name in ("r/src/a.o", "r/src/a.so"):
             self.write(name, "compiled with the library")
-        self.assertEqual(self.configure(), ((0, "welungad: without the C library; calls run the program\n", ""), ""))
+        without = "# without the C library\n"
+        self.assertEqual(self.configure(), ((0, "welungad: without the C library; calls run the program\n", ""), without))
         self.assertEqual(sorted(os.listdir(os.path.join(self.top, "r", "src"))), ["Makevars", "a.c"])
 
     def test_with(self):
