@@ -42,6 +42,7 @@ use Rattle.edge_expression.proofs.ShortOperations.{some_number}
 use Rattle.numerals.specs.Lowest.{lowest_terms}
 use Rattle.numerals.specs.Decimals.{Decimal, has_too_many_digits, decimal_value}
 use Rattle.fraction.proofs.DecimalValues.{decimal_some}
+use Rattle.field_core.proofs.Results.{same_value}
 
 -- ---- identities of numbers
 
@@ -180,9 +181,6 @@ of_five a b c d e u v w x y p q r s t =
 
 -- ---- results
 
-same_ok : (x y : List Terms) → Path (Result (List Terms) ValueFault) (Ok x) (Ok y) → x ≡ y
-same_ok x y h = cc
-
 -- coefficients that are these numbers, where all are made
 all_meant : (f : ℕ → Result Terms ValueFault) (g : ℕ → Value) (z : List Terms) → coefficients f ≡ Ok z
     → ((k : ℕ) (t : Terms) → f k ≡ Ok t → IsNumber t (g k)) → IsMeant z (by_powers (g 0) (g 1) (g 2) (g 3) (g 4) epsilon)
@@ -194,7 +192,7 @@ all_meant f g z h is =
     let d = bind_ok (f 3) _ z c.1.1 in
     let e = bind_ok (f 4) _ z d.1.1 in
     let n = of_five a.0 b.0 c.0 d.0 e.0 (g 0) (g 1) (g 2) (g 3) (g 4) (is 0 a.0 a.1.0) (is 1 b.0 b.1.0) (is 2 c.0 c.1.0) (is 3 d.0 d.1.0) (is 4 e.0 e.1.0) in
-    subst (λ l. IsMeant l (by_powers (g 0) (g 1) (g 2) (g 3) (g 4) epsilon)) (same_ok (a.0 ∷ b.0 ∷ c.0 ∷ d.0 ∷ e.0 ∷ []) z e.1.1) n
+    subst (λ l. IsMeant l (by_powers (g 0) (g 1) (g 2) (g 3) (g 4) epsilon)) (same_value (a.0 ∷ b.0 ∷ c.0 ∷ d.0 ∷ e.0 ∷ []) z e.1.1) n
 
 -- ---- sums and differences
 
@@ -272,16 +270,13 @@ pair_none x y i j p q d s h k = elim (cases_lt (degree x) i) [
 
 -- ---- products
 
-same_terms : (x y : Terms) → Path (Result Terms ValueFault) (Ok x) (Ok y) → x ≡ y
-same_terms x y h = cc
-
 zero_is : IsNumber zero_terms number_zero
 zero_is = record { reduced = zero_reduced; is = fraction-zero (pos 1) (λ e. omega (arith, ints)) }
 
 pub products_at : (x y : List Terms) (k n : ℕ) (t : Terms) → ((j : ℕ) → IsReduced (terms_at x j)) → ((j : ℕ) → IsReduced (terms_at y j))
     → product_sum x y k n ≡ Ok t → IsNumber t (products (value_at x) (value_at y) k n)
 unfolding product_sum products
-products_at x y k zero t p q h = subst (λ u. IsNumber u number_zero) (same_terms zero_terms t h) zero_is
+products_at x y k zero t p q h = subst (λ u. IsNumber u number_zero) (same_value zero_terms t h) zero_is
 products_at x y k (suc n) t p q h =
     let s = bind_ok (product_sum x y k n) _ t h in
     let u = bind_ok (product (terms_at x n) (terms_at y (k - n))) _ t s.1.1 in
@@ -370,7 +365,7 @@ plain_meant t v h =
 decimal_by : (b : Bool) (l : Terms) (x : List Terms) → decimal_entry (cond b None (Some l)) ≡ Ok x
     → (t : Terms) × ((short_of l ≡ Ok t) × (plain_entry t ≡ x))
 decimal_by true l x h = absurd cc
-decimal_by false l x h = let b = bind_ok (short_of l) (λ t. Ok (plain_entry t)) x h in (b.0, (b.1.0, same_ok (plain_entry b.0) x b.1.1))
+decimal_by false l x h = let b = bind_ok (short_of l) (λ t. Ok (plain_entry t)) x h in (b.0, (b.1.0, same_value (plain_entry b.0) x b.1.1))
 
 decimal_meant : (d : Decimal) (x : List Terms) → decimal_entry (decimal_value d) ≡ Ok x
     → IsMeant x (fraction (value_of None d.body).num (value_of None d.body).den)
@@ -421,7 +416,7 @@ power_meaning : (p : ℕ) (x : List Terms) → power_value p ≡ Ok x → IsMean
 unfolding power_value coefficients
 power_meaning p x h =
     let l = low_degree (nat_lt 4 p) p (Ok (tabled (unit_at p))) x refl h in
-    subst (λ t. IsMeant t (power_of_epsilon p)) (same_ok (tabled (unit_at p)) x l.1) (unit_meant p l.0)
+    subst (λ t. IsMeant t (power_of_epsilon p)) (same_value (tabled (unit_at p)) x l.1) (unit_meant p l.0)
 
 epsilon_meaning : (power : Option Power) (x : List Terms) → epsilon_value power ≡ Ok x → IsMeant x (power_meant power)
 epsilon_meaning None x h = power_meaning 1 x h
@@ -440,7 +435,7 @@ mutual
       (joined_meant (sign_or_plus sign) zero_coefficients t.0 s.0 number_zero (term_meaning first) zero_entry (term_meant first t.0 t.1.0) s.1.0) s.1.1
 
   terms_meant : (ts : MoreTerms) (s : List Terms) (v : Value) (x : List Terms) → IsMeant s v → with_terms s ts ≡ Ok x → IsMeant x (and_terms v ts)
-  terms_meant NoTerm s v x m h = subst (λ l. IsMeant l v) (same_ok s x h) m
+  terms_meant NoTerm s v x m h = subst (λ l. IsMeant l v) (same_value s x h) m
   terms_meant (AndTerm sign term others) s v x m h =
       let t = bind_ok (term_value term) _ x h in
       let l = bind_ok (joined sign s t.0) _ x t.1.1 in
@@ -452,7 +447,7 @@ mutual
 
   factors_meant : (fs : MoreFactors) (p : List Terms) (v : Value) (x : List Terms) → IsMeant p v → with_factors p fs ≡ Ok x
       → IsMeant x (and_factors v fs)
-  factors_meant NoFactor p v x m h = subst (λ l. IsMeant l v) (same_ok p x h) m
+  factors_meant NoFactor p v x m h = subst (λ l. IsMeant l v) (same_value p x h) m
   factors_meant (Times factor others) p v x m h =
       let f = bind_ok (factor_value factor) _ x h in
       let l = bind_ok (times p f.0) _ x f.1.1 in

@@ -20,6 +20,7 @@ use Rattle.staged_levels.specs.Studies.{positions_of}
 use Rattle.staged_levels.specs.StudyContents.{StudyContent, size_of, IsSomeStudy, MayRejectAt, IsNextStudy}
 use Rattle.staged_levels.proofs.Arrivals.{arrivals_may, one_arrival}
 use Rattle.staged_levels.proofs.StateFacts.{stage_range, sizes_are, not_rejected_live, few_rejected, next_study}
+use Rattle.std.proofs.lemmas.Bool.{cases_lt}
 
 length_push : (ks : List ℕ) (k : ℕ) → length (ks ++ (k ∷ [])) ≡ suc (length ks)
 length_push [] k = refl
@@ -81,6 +82,3 @@ next_smaller t new k stage T m n =
     ∙ ap length (map_push (λ r. r.hypothesis) t.looks.rejected n.line) ∙ length_push (positions_of t.looks.rejected) n.line.hypothesis in
     let s : size_of new ≡ size_of t = ap length n.spends in
     omega (arith, few, e, s)
-
-pub stage_cases : (a n : ℕ) → (a < n) ⊎ (n ≤ a)
-stage_cases a n = grind arith

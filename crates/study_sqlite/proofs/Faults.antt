@@ -4,17 +4,13 @@ use Rattle.std.specs.Result.{IsErrAnd}
 use Rattle.sqlite.specs.declared.error.Error.{Error}
 use Rattle.study_sqlite.specs.declared.fault.FileFault.{FileFault}
 use Rattle.study_sqlite.specs.FileFaults.{fault_of_error}
+use Rattle.field_core.proofs.Results.{on_ok}
 
 -- what holds of the fault that an error is reported as holds where that error was reported
 pub told : {T : Type 0} (r : Result T FileFault) (error : Error) (P : FileFault → Type 0) → IsErrAnd r (λ f. f ≡ fault_of_error error)
     → ((f : FileFault) → f ≡ fault_of_error error → P f) → IfErr r P
 told (Ok x) error P h k = tt
 told (Err f) error P h k = k f h
-
--- where a call went well, what that gives holds
-pub goes_well : {T E : Type 0} (r : Result T E) (A B : Type 0) → OnOk r A → (A → B) → OnOk r B
-goes_well (Ok x) A B h k = k h
-goes_well (Err error) A B h k = tt
 
 -- the same of what holds under a condition
 pub goes_well_under : {T E : Type 0} (r : Result T E) (H A B : Type 0) → (H → OnOk r A) → ((H → A) → B) → OnOk r B

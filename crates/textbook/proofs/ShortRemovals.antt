@@ -15,6 +15,7 @@ use Rattle.fraction.specs.Within.{IsWithin, limit_of}
 use Rattle.fraction.proofs.ShortTerms.{parts_within}
 use Rattle.removal.specs.StoredGraph.{StoredGraph, size, is_live, weight, edge}
 use Rattle.removal.specs.WrittenRemoval.{is_gone, new_weight, divisor, new_edge, new_row, written_removal}
+use Rattle.field_core.proofs.Positions.{at_or_below}
 
 -- the parts of the weights of the hypotheses that are in are at most `w`, and those of the edges between them `e`
 pub record AreWithin (w e : ℕ) (G : StoredGraph) : Type 0 where
@@ -45,9 +46,6 @@ module _ {A B E : Type 0} where
 
 pub at_made : {A : Type 0} (p : Place) (op : Op) (r : Option A) (x : A) → r ≡ Some x → at p op r ≡ Ok x
 at_made p op r x e = ap (λ q. at p op q) e
-
-last : (l n : ℕ) → l < suc n → (l ≡ n) ⊎ (l < n)
-last l n h = grind arith
 
 module _ {A E : Type 0} where
   pub each_defined : (n : ℕ) (f : ℕ → Result A E) → ((l : ℕ) → l < n → IsDefined (f l)) → IsDefined (each_below n f)
