@@ -1,5 +1,5 @@
 -- Bytes have one value, and denote one case.
-use Rattle.std.proofs.Common.{◌≡◌, ◌∙◌, sym, ap, Option, Some}
+use Rattle.std.proofs.Common.{◌∙◌, sym, ap}
 use Rattle.case_model.specs.Content.{content_of}
 use Rattle.serde_json.specs.Read.{read}
 use Rattle.field_core.proofs.Results.{same_value, one_some}

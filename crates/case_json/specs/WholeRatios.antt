@@ -3,10 +3,9 @@ use Rattle.std.specs.Prelude.{◌≡◌, ◌<◌, ◌^◌, ℕ, ℤ, pos, unsign
 use Rattle.std.proofs.Common.{arith, lit<}
 use Rattle.std.proofs.lemmas.Bool.{ltb-true}
 use Rattle.std.proofs.lemmas.Int.{ints}
-use Rattle.field_core.specs.Divisor.{gcd}
 use Rattle.field_core.specs.Terms.{IsReduced}
 use Rattle.field_core.specs.declared.ratio.Ratio.{Ratio}
-use Rattle.field_core.proofs.Coprime.{gcd_bounds, gcd_one}
+use Rattle.field_core.proofs.Coprime.{gcd_one}
 
 narrow : (n : ℕ) → n < 2 ^ 64 → n < 2 ^ 127
 narrow n small = omega (arith, small)

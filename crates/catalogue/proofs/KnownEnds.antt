@@ -1,10 +1,10 @@
 -- The edges of named graphs go between their hypotheses.
-use Rattle.std.proofs.Common.{◌≡◌, refl, ap, ap₂, ◌∙◌, ℕ, zero, suc, ◌+◌, ◌<◌, List, [], ◌∷◌, ◌++◌, length, Bool, true}
+use Rattle.std.proofs.Common.{◌≡◌, refl, ap, ◌∙◌, ℕ, zero, suc, ◌+◌, ◌<◌, List, length, Bool, true}
 use Rattle.std.proofs.Common.{◌&&◌, Option, Some, None, arith}
 use Rattle.std.proofs.lemmas.Bool.Decides.{nat_tests}
 use Rattle.std.proofs.lemmas.List.FromFn.{length-map-range_with_len}
 use Rattle.std.specs.List.{list_all, flat_map, range_with_len}
-use Rattle.case_model.proofs.Holding.{both, all_append}
+use Rattle.case_model.proofs.Holding.{all_append}
 use Rattle.case_model.specs.Draft.{goes_between, have_known_ends, have_known_arrivals}
 use Rattle.field_core.specs.declared.ratio.Ratio.{Ratio}
 use Rattle.catalogue.specs.WeightedGraphs.{WeightedGraph, name_of, edge_with, edge_in, edges_from, edges_of, draft_of}

@@ -1,7 +1,7 @@
 -- The text of an entry, term by term.
 use Rattle.std.proofs.Common.{◌≡◌, ℕ, zero, suc, ◌+◌, ◌-◌, ◌<◌, Bool, true, false, cond, List, [], ◌++◌, refl, sym, ap, ◌∙◌, add-one}
 use Rattle.std.proofs.Common.{arith, append_assoc, inl, inr}
-use Rattle.std.specs.Prelude.{codes, ◌&&◌, Result, Ok, Err, OnOk, OnErr}
+use Rattle.std.specs.Prelude.{codes, ◌&&◌}
 use Rattle.std.proofs.lemmas.List.{append-nil}
 use Rattle.std.proofs.lemmas.Bool.{cases_lt}
 use Rattle.field_core.specs.Terms.{Terms}
@@ -10,7 +10,6 @@ use Rattle.case_model.specs.Sums.{terms_at}
 use Rattle.case_model.proofs.Holding.{both}
 use Rattle.field_core.specs.Texts.{IsBegun}
 use Rattle.edge_expression.specs.EntryTexts.{joined_term, terms_text, are_zero_below, coefficients_text}
-use Rattle.field_core.proofs.Results.{on_ok, on_err}
 
 -- The terms of the powers below this one are printed; `is_first` says whether there was none.
 pub record IsPrinted (old out : List ℕ) (is_first : Bool) (power : ℕ) (e : List Terms) : Type 0 where

@@ -1,16 +1,16 @@
 -- Written operations with 0, which need no step.
-use Rattle.std.proofs.Common.{◌≡◌, ℕ, suc, ◌/◌, ◌<◌, ◌^◌, ℤ, pos, negsuc, ◌+ℤ◌, ◌*ℤ◌, ◌<ℤ◌, unsigned_abs, int_div}
-use Rattle.std.proofs.Common.{neg_ℤ, Some, refl, sym, ◌∙◌, ap, arith, inl, lit<}
+use Rattle.std.proofs.Common.{◌≡◌, ℕ, ◌/◌, ◌<◌, ◌^◌, ℤ, pos, negsuc, ◌+ℤ◌, ◌*ℤ◌, ◌<ℤ◌, unsigned_abs, int_div}
+use Rattle.std.proofs.Common.{Some, refl, sym, ◌∙◌, ap, arith, lit<}
 use Rattle.std.proofs.lemmas.Int.{ints}
 use Rattle.std.proofs.Math.IntN.{*ℤ_comm}
-use Rattle.std.proofs.Math.Nat.{div-one, zero-div, div_self}
+use Rattle.std.proofs.Math.Nat.{zero-div, div_self}
 use Rattle.field_core.specs.Divisor.{gcd}
 use Rattle.field_core.specs.Terms.{Terms, IsReduced}
 use Rattle.fraction.specs.declared.short.ShortRatio.{ShortRatio}
 use Rattle.fraction.specs.Short.{short_terms}
 use Rattle.field_core.specs.Sized.{gcd_of}
 use Rattle.field_core.proofs.Sized.{sized_small}
-use Rattle.field_core.proofs.Stein.{gcd_of_zero, gcd_by_one, gcd_with_one}
+use Rattle.field_core.proofs.Stein.{gcd_of_zero}
 use Rattle.fraction.specs.Written.{written_mul, written_add}
 use Rattle.field_core.proofs.Wholes.{over_one}
 use Rattle.field_core.proofs.Coprime.{gcd_one, one_gcd}

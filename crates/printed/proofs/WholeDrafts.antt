@@ -1,7 +1,7 @@
 -- The edges of what is read have a coefficient for each power from 0 to 4, and so have the tables of the case.
-use Rattle.std.proofs.Common.{◌≡◌, refl, ap₂, ℕ, zero, suc, ◌+◌, ◌*◌, ◌/◌, ◌%◌, ◌&&◌, Bool, true, false, cond}
+use Rattle.std.proofs.Common.{◌≡◌, refl, ap₂, ℕ, ◌*◌, ◌/◌, ◌%◌, ◌&&◌, Bool, true, false, cond}
 use Rattle.std.proofs.Common.{List, [], ◌∷◌, map, length, Option, Some}
-use Rattle.std.specs.List.{list_all, find, range_with_len}
+use Rattle.std.specs.List.{list_all, find}
 use Rattle.case_model.specs.declared.draft.Draft.{Draft}
 use Rattle.case_model.specs.declared.draft_component.DraftComponent.{DraftComponent}
 use Rattle.case_model.specs.declared.draft_edge.DraftEdge.{DraftEdge}

@@ -1,6 +1,6 @@
 -- What texts and sheets say has edges with a coefficient for each power.
 use Rattle.std.proofs.Common.{◌≡◌, refl, sym, ap, ap₂, ◌∙◌, ℕ, ◌+◌, ◌==◌, ◌&&◌, Bool, true, false, cond}
-use Rattle.std.proofs.Common.{List, [], ◌∷◌, ◌++◌, drop, length, Ok, inl, inr}
+use Rattle.std.proofs.Common.{List, [], ◌∷◌, drop, length, Ok, inl, inr}
 use Rattle.std.specs.List.{AllZip, list_all}
 use Rattle.field_core.proofs.Results.{came_from, same_value, value_told}
 use Rattle.field_core.specs.declared.ratio.Ratio.{Ratio}

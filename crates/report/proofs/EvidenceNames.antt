@@ -2,8 +2,6 @@
 use Rattle.std.proofs.Common.{◌≡◌, sym, ap, ap₂, subst, ◌∙◌, ℕ, ◌<◌, List, ◌++◌, map, Result}
 use Rattle.std.specs.Prelude.{OnOk}
 use Rattle.std.specs.List.{All}
-use Rattle.std.proofs.Math.ListN.{get_or-map}
-use Rattle.std.proofs.lemmas.List.{length-map}
 use Rattle.field_core.specs.Kind.{Parts}
 use Rattle.fraction.specs.Plain.{fraction_parts}
 use Rattle.eps_quotient.specs.View.{quotient_parts}

@@ -1,5 +1,5 @@
 -- What is known of each study, whatever its case.
-use Rattle.std.proofs.Common.{◌≡◌, ◌⊎◌, ◌≤◌, refl, sym, ap, ◌∙◌, subst, ℕ, suc, ◌<◌, ◌-◌, arith, Bool, true, List, []}
+use Rattle.std.proofs.Common.{◌≡◌, ◌≤◌, refl, sym, ap, ◌∙◌, subst, ℕ, suc, ◌<◌, ◌-◌, arith, Bool, true, List, []}
 use Rattle.std.proofs.Common.{◌∷◌, ◌++◌, length}
 use Rattle.std.proofs.lemmas.List.{map_push}
 use Rattle.std.proofs.Math.Logic.{∥∥₁_elim, ∥∥₁_prop}
@@ -20,7 +20,6 @@ use Rattle.staged_levels.specs.Studies.{positions_of}
 use Rattle.staged_levels.specs.StudyContents.{StudyContent, size_of, IsSomeStudy, MayRejectAt, IsNextStudy}
 use Rattle.staged_levels.proofs.Arrivals.{arrivals_may, one_arrival}
 use Rattle.staged_levels.proofs.StateFacts.{stage_range, sizes_are, not_rejected_live, few_rejected, next_study}
-use Rattle.std.proofs.lemmas.Bool.{cases_lt}
 
 length_push : (ks : List ℕ) (k : ℕ) → length (ks ++ (k ∷ [])) ≡ suc (length ks)
 length_push [] k = refl

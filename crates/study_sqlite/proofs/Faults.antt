@@ -4,7 +4,6 @@ use Rattle.std.specs.Result.{IsErrAnd}
 use Rattle.sqlite.specs.declared.error.Error.{Error}
 use Rattle.study_sqlite.specs.declared.fault.FileFault.{FileFault}
 use Rattle.study_sqlite.specs.FileFaults.{fault_of_error}
-use Rattle.field_core.proofs.Results.{on_ok}
 
 -- what holds of the fault that an error is reported as holds where that error was reported
 pub told : {T : Type 0} (r : Result T FileFault) (error : Error) (P : FileFault → Type 0) → IsErrAnd r (λ f. f ≡ fault_of_error error)

@@ -1,5 +1,5 @@
 -- The written removal of a hypothesis from a graph of short fractions is defined.
-use Rattle.std.proofs.Common.{◌≡◌, ◌≢◌, ◌⊎◌, inl, inr, refl, sym, ap, ◌∙◌, ℕ, zero, suc, ◌<◌, ◌^◌, ◌==◌, ◌||◌, not}
+use Rattle.std.proofs.Common.{◌≡◌, ◌≢◌, inl, inr, refl, sym, ap, ◌∙◌, ℕ, zero, suc, ◌<◌, ◌^◌, ◌==◌, ◌||◌, not}
 use Rattle.std.proofs.Common.{arith, Bool, true, false, if◌then◌else◌, List, [], ◌∷◌, ◌++◌, Option, Some, None, Result, Ok}
 use Rattle.std.proofs.lemmas.Bool.Decides.{nat_tests}
 use Rattle.field_core.specs.Kind.{Parts, is_zero}
@@ -15,7 +15,6 @@ use Rattle.fraction.specs.Within.{IsWithin, limit_of}
 use Rattle.fraction.proofs.ShortTerms.{parts_within}
 use Rattle.removal.specs.StoredGraph.{StoredGraph, size, is_live, weight, edge}
 use Rattle.removal.specs.WrittenRemoval.{is_gone, new_weight, divisor, new_edge, new_row, written_removal}
-use Rattle.field_core.proofs.Positions.{at_or_below}
 
 -- the parts of the weights of the hypotheses that are in are at most `w`, and those of the edges between them `e`
 pub record AreWithin (w e : ℕ) (G : StoredGraph) : Type 0 where

@@ -1,9 +1,8 @@
 -- The limit of a quotient from 0 to 1 is the quotient of the coefficients of power 0, in lowest terms.
-use Rattle.std.proofs.Common.{◌≡◌, refl, sym, ◌∙◌, ap, ap₂, zero, suc, ℕ, List, [], ◌∷◌, ℤ, pos, negsuc, ◌+ℤ◌, ◌*ℤ◌}
+use Rattle.std.proofs.Common.{◌≡◌, refl, sym, ◌∙◌, ap, ap₂, zero, suc, List, [], ◌∷◌, ℤ, pos, negsuc, ◌+ℤ◌, ◌*ℤ◌}
 use Rattle.std.proofs.Common.{◌<ℤ◌, neg_ℤ, unsigned_abs, int_div, ◌<◌, ◌^◌, arith}
 use Rattle.std.proofs.lemmas.Int.{ints}
-use Rattle.std.specs.Int.{◌∣◌}
-use Rattle.std.proofs.Math.Nat.{div-le_self, pos_of_dvd_of_pos}
+use Rattle.std.proofs.Math.Nat.{div-le_self}
 use Rattle.std.specs.declared.cmp.Ordering.TheVariants.{Less, Greater}
 use Rattle.field_core.specs.Divisor.{gcd}
 use Rattle.field_core.specs.Sized.{gcd_of}
@@ -11,11 +10,9 @@ use Rattle.field_core.specs.Terms.{IsReduced}
 use Rattle.field_core.specs.Polynomial.{coefficient, poly_add, poly_negate, lowest, int_sign, IsNonZero}
 use Rattle.field_core.specs.Laws.PolynomialLaws.{coefficient-add, coefficient-negate, positive_out}
 use Rattle.field_core.specs.Arithmetic.{number_one, number_sign, ◌+ε◌, ◌-ε◌}
-use Rattle.field_core.specs.LimitRatio.{limit_ratio}
 use Rattle.field_core.specs.Limit.{limit}
 use Rattle.field_core.specs.LimitParts.{first, limit_terms, IsUnit}
 use Rattle.field_core.specs.Fractions.{quotient, fraction}
-use Rattle.field_core.specs.Laws.LimitRespects.{first_other}
 use Rattle.field_core.specs.Laws.LimitLaws.{limit-quotient, lowest-first, ratio_at}
 use Rattle.field_core.specs.Laws.NumberFieldLaws.{at_most_out}
 use Rattle.field_core.specs.Laws.Order.{nonneg_in, number_subtract_is}
@@ -24,7 +21,7 @@ use Rattle.field_core.specs.Laws.Effective.{positive_nonzero}
 use Rattle.field_core.proofs.Divisors.{gcd_is}
 use Rattle.field_core.proofs.IntegerRing.{ring}
 use Rattle.std.proofs.Math.IntN.{+ℤ_idl}
-use Rattle.field_core.proofs.Coprime.{gcd_from_apart, quotients_apart, quotient_divides, gcd_bounds}
+use Rattle.field_core.proofs.Coprime.{gcd_from_apart, quotients_apart, gcd_bounds}
 use Rattle.field_core.proofs.Wholes.{quotient_times, size_positive, size_quotient, quotient_positive}
 use Rattle.eps_quotient.specs.Laws.QuotientLaws.{one_value, sum_over_same, sign_value}
 

@@ -6,11 +6,9 @@ use Rattle.std.specs.Int.{is_negative}
 use Rattle.std.specs.declared.cmp.Ordering.TheVariants.{Greater}
 use Rattle.std.proofs.lemmas.Bool.{cases_lt}
 use Rattle.std.proofs.lemmas.Bool.Decides.{nat_tests}
-use Rattle.std.proofs.Math.Nat.{one-dvd}
 use Rattle.field_core.specs.Kind.{Parts, is_zero_integer}
-use Rattle.field_core.specs.Laws.Integers.{int_multiply_one}
 use Rattle.field_core.specs.Polynomial.{coefficient, Same, poly_negate, lowest, int_sign, IsNonZero}
-use Rattle.field_core.specs.Laws.PolynomialLaws.{lowest-none, same_sym}
+use Rattle.field_core.specs.Laws.PolynomialLaws.{same_sym}
 use Rattle.eps_poly.specs.Polynomials.{is_same, zero_polynomial, monomial}
 use Rattle.eps_poly.specs.Factors.{order, factor, lowered, core, from_factors}
 use Rattle.eps_poly.proofs.Coefficients.{same_from, same_polynomials, length-zero, coefficient-zero}
@@ -18,7 +16,7 @@ use Rattle.eps_poly.proofs.OrderLaws.{coefficient-below_order, none_but_zero}
 use Rattle.eps_poly.proofs.FactorLaws.{coefficient-lowered, core_factors}
 use Rattle.eps_quotient.specs.Laws.Cores.{length-lowered}
 use Rattle.eps_quotient.specs.Laws.Multiples.{length-monomial, monomial-factors}
-use Rattle.field_core.proofs.Wholes.{quotient_times, over_one}
+use Rattle.field_core.proofs.Wholes.{over_one}
 use Rattle.eps_quotient.specs.Lowering.{one_polynomial, zero_quotient, common_order, without_powers, without_cores, lower, turned, norm}
 use Rattle.eps_quotient.specs.Stored.{IsQuotient}
 use Rattle.eps_quotient.specs.Laws.QuotientLaws.{same_trans}

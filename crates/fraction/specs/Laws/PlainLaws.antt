@@ -1,6 +1,6 @@
 -- The plain kind is exact.
 use Rattle.std.proofs.Common.{◌≡◌, ◌≢◌, refl, sym, ap, ap₂, subst, ◌∙◌, ℤ, pos, negsuc, zero, suc, neg_ℤ, ◌*ℤ◌, ◌<ℤ◌, []}
-use Rattle.std.proofs.Common.{◌∷◌, true, false, Option, Some, None, arith}
+use Rattle.std.proofs.Common.{◌∷◌, Option, Some, None, arith}
 use Rattle.std.specs.Option.{option_map}
 use Rattle.std.proofs.lemmas.Int.{ints}
 use Rattle.field_core.specs.declared.place.Op.{Op}
@@ -13,7 +13,7 @@ use Rattle.field_core.specs.Laws.Integers.{integers, int_negate_multiply, int_mu
 use Rattle.field_core.specs.Number.{Number}
 use Rattle.field_core.specs.Arithmetic.{number_zero, number_one, number_negate, number_sign, ◌+ε◌, ◌*ε◌, ◌/ε◌, number_compare}
 use Rattle.field_core.specs.Laws.PolynomialLaws.{nonzero-one, int_sign-scale, positive_in}
-use Rattle.field_core.specs.Polynomial.{lowest, int_sign}
+use Rattle.field_core.specs.Polynomial.{int_sign}
 use Rattle.field_core.specs.Laws.NumberLaws.{number_multiply_assoc, number_multiply_one}
 use Rattle.field_core.specs.Laws.Order.{number_subtract_is, divide_unique}
 use Rattle.field_core.specs.Fractions.{fraction}

@@ -1,6 +1,5 @@
 -- The limit terms of a stored fraction are its own terms.
-use Rattle.std.proofs.Common.{◌≡◌, ap, ap₂, ◌∙◌, suc, ℤ, pos, negsuc, neg_ℤ, int_div}
-use Rattle.std.proofs.Math.Nat.{div-one}
+use Rattle.std.proofs.Common.{◌≡◌, ap, ap₂, ◌∙◌, pos, int_div}
 use Rattle.field_core.specs.Terms.{Terms, IsReduced}
 use Rattle.field_core.specs.Sized.{gcd_of}
 use Rattle.field_core.specs.Kind.{Parts}

@@ -30,7 +30,6 @@ use Rattle.row_removal.specs.StoredRow.{StoredRow, numerator_at, row_value, IsPr
 use Rattle.row_removal.specs.Clearing.{map_all, quotient_row, divided_row, row_content, row_order, row_by, lowered_row, cleared}
 use Rattle.row_removal.specs.Laws.Together.{AreGiven, all_given}
 use Rattle.field_core.proofs.Results.{bind_some, same_some}
-use Rattle.field_core.proofs.Coprime.{one_gcd}
 
 -- A proper row with the values of another.
 pub record HasValues (m : ℕ) (r t : StoredRow) : Type 0 where
