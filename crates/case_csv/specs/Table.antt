@@ -4,8 +4,7 @@ use Rattle.std.specs.Prelude.{◌∷◌, ◌++◌, Option, Some, None, Result, O
 use Rattle.std.specs.List.{suffix_len}
 use Rattle.std.specs.Str.{bytes_eq}
 use Rattle.field_core.specs.declared.ratio.Ratio.{Ratio}
-use Rattle.field_core.specs.Answers.{mapped, told_as}
-use Rattle.field_core.specs.Steps.{◌>>=◌}
+use Rattle.field_core.specs.Answers.{◌>>=◌, mapped, told_as}
 use Rattle.fraction.specs.Plain.{one_reduced}
 use Rattle.fraction.specs.Numerals.{numeral_of}
 use Rattle.case_model.specs.declared.draft.Draft.{Draft}

@@ -1,9 +1,8 @@
 -- What the values of a JSON document denote, or their first fault: numbers, names, edges, components, stages and the draft.
 use Rattle.std.specs.Prelude.{◌≡◌, ◌^◌, ℕ, ℤ, pos, unsigned_abs, List, [], ◌∷◌, Bool, true, false, Option, Some, None, Result, Ok, Err}
 use Rattle.std.specs.Prelude.{codes, nat_le, ok_or, option_and_then}
-use Rattle.field_core.specs.Answers.{and_then, mapped, told_as}
+use Rattle.field_core.specs.Answers.{and_then, ◌>>=◌, mapped, told_as}
 use Rattle.field_core.specs.declared.ratio.Ratio.{Ratio}
-use Rattle.field_core.specs.Steps.{◌>>=◌}
 use Rattle.fraction.specs.Plain.{one_reduced}
 use Rattle.case_model.specs.Sums.{zero_ratio}
 use Rattle.fraction.specs.Numerals.{numeral_of}

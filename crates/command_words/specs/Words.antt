@@ -3,7 +3,7 @@ use Rattle.std.specs.Prelude.{◌≡◌, ℕ, ◌+◌, Bool, false, List, [], �
 use Rattle.std.specs.Prelude.{IsTrue, if◌then◌else◌}
 use Rattle.std.specs.Str.{bytes_eq}
 use Rattle.answers.specs.Stages.{Stage}
-use Rattle.field_core.specs.Steps.{◌>>=◌}
+use Rattle.field_core.specs.Answers.{◌>>=◌}
 use Rattle.command_words.specs.Asked.{Asked, StudyAsked}
 use Rattle.command_words.specs.Given.{GivenContent, nothing, not_given, with_text, asked_of, study_of, forbidden_word}
 use Rattle.command_words.specs.Table.{verb_named, argument_of}

@@ -20,6 +20,10 @@ abbrev pub and_then : {A B E : Type 0} → Result A E → (A → Result B E) →
 and_then (Ok a) next = next a
 and_then (Err e) next = Err e
 
+infixl 10 ◌>>=◌
+abbrev pub ◌>>=◌ : {A B E : Type 0} → Result A E → (A → Result B E) → Result B E
+r >>= next = and_then r next
+
 -- what is made of an answer
 abbrev pub mapped : {A B E : Type 0} → (A → B) → Result A E → Result B E
 mapped f r = and_then r (λ a. Ok (f a))

@@ -172,7 +172,7 @@ impl GivenGraph<'_> {
     }
 
     /// Writes the rows of edges.
-    #[tactic(auto, using(field_core::proofs::Fills::filled_to, field_core::proofs::Fills::filled_until))]
+    #[tactic(auto, using(field_core::proofs::Fills::filled_to))]
     pub fn write_rows(&self, next: &mut [Row]) -> Result<(), Wide>
         requires count { length next.old ≡ size self.now }
         requires room { All (λ r. length r.numerators ≡ size self.now) next.old }
