@@ -44,7 +44,7 @@ between_plain : (es : List DraftEdge) (i j : ℕ) → list_all plain_edge es ≡
 unfolding edge_between
 between_plain es i j h = found_plain (has_ends i j) es h
 
-pub all_mapped : {A : Type 0} (test : A → Bool) (f : ℕ → A) (a n : ℕ)
+all_mapped : {A : Type 0} (test : A → Bool) (f : ℕ → A) (a n : ℕ)
     → ((k : ℕ) → test (f k) ≡ true) → list_all test (map f (range_with_len a n)) ≡ true
 all_mapped test f a zero h = refl
 all_mapped test f a (suc n) h = ap₂ ◌&&◌ (h a) (all_mapped test f (a + 1) n h)

@@ -61,33 +61,56 @@ unfoldable pub all_products : (ℕ → Value) → (ℕ → Value) → Value → 
 all_products f g x = by_powers (products f g 0 1) (products f g 1 2) (products f g 2 3) (products f g 3 4) (products f g 4 5) x
 
 -- what the products of coefficients past power 4 add
-unfoldable pub past : (ℕ → Value) → (ℕ → Value) → Value → Value
-past f g x =
-    (f 1 *ε g 4 +ε f 2 *ε g 3 +ε f 3 *ε g 2 +ε f 4 *ε g 1) *ε (x *ε (x *ε (x *ε (x *ε (x *ε number_one)))))
-    +ε (f 2 *ε g 4 +ε f 3 *ε g 3 +ε f 4 *ε g 2) *ε (x *ε (x *ε (x *ε (x *ε (x *ε (x *ε number_one))))))
-    +ε (f 3 *ε g 4 +ε f 4 *ε g 3) *ε (x *ε (x *ε (x *ε (x *ε (x *ε (x *ε (x *ε number_one)))))))
-    +ε (f 4 *ε g 4) *ε (x *ε (x *ε (x *ε (x *ε (x *ε (x *ε (x *ε (x *ε number_one))))))))
+unfoldable pub past : (a b c d e f g h i j x : Value) → Value
+past a b c d e f g h i j x =
+    number_zero +ε (b *ε j) *ε (x *ε (x *ε (x *ε (x *ε (x *ε number_one))))) +ε (c *ε i) *ε
+    (x *ε (x *ε (x *ε (x *ε (x *ε number_one))))) +ε (c *ε j) *ε (x *ε (x *ε (x *ε (x *ε (x *ε (x *ε number_one)))))) +ε
+    (d *ε h) *ε (x *ε (x *ε (x *ε (x *ε (x *ε number_one))))) +ε (d *ε i) *ε
+    (x *ε (x *ε (x *ε (x *ε (x *ε (x *ε number_one)))))) +ε (d *ε j) *ε
+    (x *ε (x *ε (x *ε (x *ε (x *ε (x *ε (x *ε number_one))))))) +ε (e *ε g) *ε (x *ε (x *ε (x *ε (x *ε (x *ε number_one))))) +ε
+    (e *ε h) *ε (x *ε (x *ε (x *ε (x *ε (x *ε (x *ε number_one)))))) +ε (e *ε i) *ε
+    (x *ε (x *ε (x *ε (x *ε (x *ε (x *ε (x *ε number_one))))))) +ε (e *ε j) *ε
+    (x *ε (x *ε (x *ε (x *ε (x *ε (x *ε (x *ε (x *ε number_one))))))))
 
-product_of : (f g : ℕ → Value) (x : Value)
-    → all_products f g x +ε past f g x ≡ by_powers (f 0) (f 1) (f 2) (f 3) (f 4) x *ε by_powers (g 0) (g 1) (g 2) (g 3) (g 4) x
-unfolding all_products products past by_powers
-product_of f g x = simp number_laws
+unfoldable pub low_products : (a b c d e f g h i j x : Value) → Value
+low_products a b c d e f g h i j x =
+    number_zero +ε (number_zero +ε a *ε f) *ε number_one +ε ((number_zero +ε a *ε g) +ε b *ε f) *ε (x *ε number_one) +ε
+    (((number_zero +ε a *ε h) +ε b *ε g) +ε c *ε f) *ε (x *ε (x *ε number_one)) +ε
+    ((((number_zero +ε a *ε i) +ε b *ε h) +ε c *ε g) +ε d *ε f) *ε (x *ε (x *ε (x *ε number_one))) +ε
+    (((((number_zero +ε a *ε j) +ε b *ε i) +ε c *ε h) +ε d *ε g) +ε e *ε f) *ε (x *ε (x *ε (x *ε (x *ε number_one))))
 
-past_none : (f g : ℕ → Value) (x : Value) → ((i j : ℕ) → 4 < i + j → i ≤ 4 → j ≤ 4 → f i *ε g j ≡ number_zero) → past f g x ≡ number_zero
+product_by : (a b c d e f g h i j x : Value)
+    → (number_zero +ε (number_zero +ε a *ε f) *ε number_one +ε ((number_zero +ε a *ε g) +ε b *ε f) *ε (x *ε number_one) +ε
+    (((number_zero +ε a *ε h) +ε b *ε g) +ε c *ε f) *ε (x *ε (x *ε number_one)) +ε
+    ((((number_zero +ε a *ε i) +ε b *ε h) +ε c *ε g) +ε d *ε f) *ε (x *ε (x *ε (x *ε number_one))) +ε
+    (((((number_zero +ε a *ε j) +ε b *ε i) +ε c *ε h) +ε d *ε g) +ε e *ε f) *ε (x *ε (x *ε (x *ε (x *ε number_one))))) +ε
+    (number_zero +ε (b *ε j) *ε (x *ε (x *ε (x *ε (x *ε (x *ε number_one))))) +ε (c *ε i) *ε
+    (x *ε (x *ε (x *ε (x *ε (x *ε number_one))))) +ε (c *ε j) *ε (x *ε (x *ε (x *ε (x *ε (x *ε (x *ε number_one)))))) +ε (d *ε h) *ε
+    (x *ε (x *ε (x *ε (x *ε (x *ε number_one))))) +ε (d *ε i) *ε (x *ε (x *ε (x *ε (x *ε (x *ε (x *ε number_one)))))) +ε (d *ε j) *ε
+    (x *ε (x *ε (x *ε (x *ε (x *ε (x *ε (x *ε number_one))))))) +ε (e *ε g) *ε (x *ε (x *ε (x *ε (x *ε (x *ε number_one))))) +ε
+    (e *ε h) *ε (x *ε (x *ε (x *ε (x *ε (x *ε (x *ε number_one)))))) +ε (e *ε i) *ε
+    (x *ε (x *ε (x *ε (x *ε (x *ε (x *ε (x *ε number_one))))))) +ε (e *ε j) *ε
+    (x *ε (x *ε (x *ε (x *ε (x *ε (x *ε (x *ε (x *ε number_one))))))))) ≡ (number_zero +ε a *ε number_one +ε b *ε (x *ε number_one) +ε c *ε
+    (x *ε (x *ε number_one)) +ε d *ε (x *ε (x *ε (x *ε number_one))) +ε e *ε (x *ε (x *ε (x *ε (x *ε number_one))))) *ε
+    (number_zero +ε f *ε number_one +ε g *ε (x *ε number_one) +ε h *ε (x *ε (x *ε number_one)) +ε i *ε
+    (x *ε (x *ε (x *ε number_one))) +ε j *ε (x *ε (x *ε (x *ε (x *ε number_one)))))
+product_by a b c d e f g h i j x = simp number_laws
+
+pub product_of : (a b c d e f g h i j x : Value)
+    → low_products a b c d e f g h i j x +ε past a b c d e f g h i j x ≡ by_powers a b c d e x *ε by_powers f g h i j x
+unfolding low_products past by_powers
+product_of a b c d e f g h i j x = product_by a b c d e f g h i j x
+
+zeros : (p q r s t u v w x y : Value)
+    → number_zero +ε number_zero *ε p +ε number_zero *ε q +ε number_zero *ε r +ε number_zero *ε s +ε number_zero *ε t +ε number_zero *ε u +ε
+    number_zero *ε v +ε number_zero *ε w +ε number_zero *ε x +ε number_zero *ε y ≡ number_zero
+zeros p q r s t u v w x y = simp number_laws
+
+past_none : (a b c d e f g h i j x : Value) → b *ε j ≡ number_zero → c *ε i ≡ number_zero → c *ε j ≡ number_zero
+    → d *ε h ≡ number_zero → d *ε i ≡ number_zero → d *ε j ≡ number_zero → e *ε g ≡ number_zero → e *ε h ≡ number_zero
+    → e *ε i ≡ number_zero → e *ε j ≡ number_zero → past a b c d e f g h i j x ≡ number_zero
 unfolding past
-past_none f g x none =
-    rw (
-      none 1 4 (omega arith) (omega arith) (omega arith),
-      none 2 3 (omega arith) (omega arith) (omega arith),
-      none 3 2 (omega arith) (omega arith) (omega arith),
-      none 4 1 (omega arith) (omega arith) (omega arith),
-      none 2 4 (omega arith) (omega arith) (omega arith),
-      none 3 3 (omega arith) (omega arith) (omega arith),
-      none 4 2 (omega arith) (omega arith) (omega arith),
-      none 3 4 (omega arith) (omega arith) (omega arith),
-      none 4 3 (omega arith) (omega arith) (omega arith),
-      none 4 4 (omega arith) (omega arith) (omega arith),
-    ) (simp number_laws)
+past_none a b c d e f g h i j x e1 e2 e3 e4 e5 e6 e7 e8 e9 e10 = rw (e1, e2, e3, e4, e5, e6, e7, e8, e9, e10) (zeros _ _ _ _ _ _ _ _ _ _)
 
 -- ---- entries by their coefficients
 
@@ -235,15 +258,35 @@ products_at x y k (suc n) t p q h =
     let both = sum_number s.0 u.0 t before.reduced.positive next.reduced.positive u.1.1 in
     record { reduced = both.reduced; is = both.is ∙ ap₂ (λ a b. a +ε b) before.is next.is }
 
+all_are_low : (f g : ℕ → Value) (x : Value) → all_products f g x ≡ low_products (f 0) (f 1) (f 2) (f 3) (f 4) (g 0) (g 1) (g 2) (g 3) (g 4) x
+unfolding all_products products low_products by_powers
+all_are_low f g x = refl
+
 add_none : (x : Value) → x +ε number_zero ≡ x
 add_none x = simp number_laws
 
 all_of : (x y : List Terms) → ((j : ℕ) → IsReduced (terms_at x j)) → ((j : ℕ) → IsReduced (terms_at y j)) → degree x + degree y ≤ 4
     → all_products (value_at x) (value_at y) epsilon ≡ terms_value x *ε terms_value y
 all_of x y p q d =
-    let all = all_products (value_at x) (value_at y) epsilon in
-    let none = past_none (value_at x) (value_at y) epsilon (λ i j. pair_none x y i j p q d) in
-    sym (ap (λ v. all +ε v) none ∙ add_none all) ∙ product_of (value_at x) (value_at y) epsilon
+    let a = value_at x 0 in
+    let b = value_at x 1 in
+    let c = value_at x 2 in
+    let e = value_at x 3 in
+    let f = value_at x 4 in
+    let g = value_at y 0 in
+    let h = value_at y 1 in
+    let i = value_at y 2 in
+    let j = value_at y 3 in
+    let k = value_at y 4 in
+    let low = low_products a b c e f g h i j k epsilon in
+    let none : past a b c e f g h i j k epsilon ≡ number_zero =
+    past_none a b c e f g h i j k epsilon (pair_none x y 1 4 p q d (omega arith) (omega arith) (omega arith))
+    (pair_none x y 2 3 p q d (omega arith) (omega arith) (omega arith)) (pair_none x y 2 4 p q d (omega arith) (omega arith) (omega arith))
+    (pair_none x y 3 2 p q d (omega arith) (omega arith) (omega arith)) (pair_none x y 3 3 p q d (omega arith) (omega arith) (omega arith))
+    (pair_none x y 3 4 p q d (omega arith) (omega arith) (omega arith))
+    (pair_none x y 4 1 p q d (omega arith) (omega arith) (omega arith)) (pair_none x y 4 2 p q d (omega arith) (omega arith) (omega arith))
+    (pair_none x y 4 3 p q d (omega arith) (omega arith) (omega arith)) (pair_none x y 4 4 p q d (omega arith) (omega arith) (omega arith)) in
+    all_are_low (value_at x) (value_at y) epsilon ∙ sym (ap (λ v. low +ε v) none ∙ add_none low) ∙ product_of a b c e f g h i j k epsilon
     ∙ ap₂ (λ v w. v *ε w) (sym (value_by_powers x)) (sym (value_by_powers y))
 
 low_degree : (b : Bool) (n : ℕ) (r : Result (List Terms) ValueFault) (z : List Terms) → nat_lt 4 n ≡ b → cond b (Err Degree) r ≡ Ok z

@@ -1,7 +1,7 @@
 -- The edges of what is read have a coefficient for each power from 0 to 4, and so have the tables of the case.
-use Rattle.std.proofs.Common.{◌≡◌, refl, ap₂, ℕ, ◌*◌, ◌/◌, ◌%◌, ◌&&◌, Bool, true, false, cond}
+use Rattle.std.proofs.Common.{◌≡◌, refl, ap₂, ℕ, zero, suc, ◌+◌, ◌*◌, ◌/◌, ◌%◌, ◌&&◌, Bool, true, false, cond}
 use Rattle.std.proofs.Common.{List, [], ◌∷◌, map, length, Option, Some}
-use Rattle.std.specs.List.{list_all, find}
+use Rattle.std.specs.List.{list_all, find, range_with_len}
 use Rattle.case_model.specs.declared.draft.Draft.{Draft}
 use Rattle.case_model.specs.declared.draft_component.DraftComponent.{DraftComponent}
 use Rattle.case_model.specs.declared.draft_edge.DraftEdge.{DraftEdge}
@@ -9,7 +9,7 @@ use Rattle.case_model.specs.Content.{content_of, edge_between, table_of, tabled,
 use Rattle.case_model.specs.Draft.{has_ends}
 use Rattle.case_model.specs.Entries.{is_whole_entry}
 use Rattle.case_model.proofs.Holding.{both}
-use Rattle.catalogue.proofs.PlainCases.{entry_found, all_mapped}
+use Rattle.catalogue.proofs.PlainCases.{entry_found}
 
 -- an edge with a coefficient for each power
 abbrev pub whole_edge : DraftEdge → Bool
@@ -35,6 +35,11 @@ found_whole p (e ∷ es) h = let b = both (whole_edge e) (list_all whole_edge es
 between_whole : (es : List DraftEdge) (i j : ℕ) → list_all whole_edge es ≡ true → is_whole_entry (edge_between es i j) ≡ true
 unfolding edge_between
 between_whole es i j h = found_whole (has_ends i j) es h
+
+all_mapped : {A : Type 0} (test : A → Bool) (f : ℕ → A) (a n : ℕ)
+    → ((k : ℕ) → test (f k) ≡ true) → list_all test (map f (range_with_len a n)) ≡ true
+all_mapped test f a zero h = refl
+all_mapped test f a (suc n) h = ap₂ (λ x y. x && y) (h a) (all_mapped test f (a + 1) n h)
 
 table_whole : (m : ℕ) (es : List DraftEdge) → list_all whole_edge es ≡ true → list_all is_whole_entry (table_of m es) ≡ true
 unfolding table_of
