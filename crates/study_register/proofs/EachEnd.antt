@@ -46,8 +46,7 @@ use Rattle.study_register.specs.declared.fault.RegisterFault.TheVariants.{BadLoo
 use Rattle.study_register.specs.Looking.{arrival_of, Takes, Follows, AreTaken}
 use Rattle.study_register.specs.RegisterFaults.{IsBadLook, IsFirstStop, IsStopped}
 use Rattle.study_register.specs.RegisterStatements.{EachLookEnds, EachOpeningEnds}
-use Rattle.study_register.proofs.TakenLooks.{taken_study, taken_is_study}
-use Rattle.staged_levels.proofs.StateFacts.{start_study}
+use Rattle.study_register.proofs.TakenLooks.{opened_study, taken_study, taken_is_study}
 
 -- ---- arrivals
 
@@ -358,7 +357,7 @@ each_look_ends c looks s l V T = look_ends c s (taken_is_study c V looks s T) (f
 -- a case that was opened
 opened_ends : (c : Content) (looks : List Look) → IsValidContent c → IsDefined c start
     → ((s : StudyState) × AreTaken c looks s) ⊎ ((why : RegisterFault) × IsStopped c looks why)
-opened_ends c looks V D = elim (follow_or_stop c looks start 1 (start_study c V) D) [
+opened_ends c looks V D = elim (follow_or_stop c looks start 1 (opened_study c V) D) [
   | inl s ↦ inl (s.0, record { opened = D; follows = s.1 })
   | inr f ↦ inr (f.0, record { opened = D; first = f.1 })
 ]
