@@ -75,6 +75,9 @@ distinct (name ∷ names) h = (
   distinct names (λ i j x y l e f. h (suc i) (suc j) x y (omega arith) e f),
 )
 
+same_name : (name : List ℕ) → bytes_eq name name ≡ true
+same_name name = (bytes_eq-Decides name name).1 refl
+
 other_name : (a b : List ℕ) → ¬ (a ≡ b) → bytes_eq a b ≡ false
 other_name a b n = elim (cases_Bool (bytes_eq a b)) [ inl t ↦ absurd (n ((bytes_eq-Decides a b).0 t)) | inr f ↦ f ]
 
@@ -89,7 +92,7 @@ place_from : (p : ℕ) (names : List (List ℕ)) (i q : ℕ) → AreDistinct nam
 place_from p [] i q h l e = absurd (omega arith)
 place_from p (name ∷ names) zero q h l e =
     let s : p ≡ q = omega arith in
-    ap (λ b. if b then Some p else position_from (bytes_eq name) (p + 1) names) ((bytes_eq-Decides name name).1 refl) ∙ ap Some s
+    ap (λ b. if b then Some p else position_from (bytes_eq name) (p + 1) names) (same_name name) ∙ ap Some s
 place_from p (name ∷ names) (suc i) q h l e =
     let w : i < length names = omega arith in
     let s : p + 1 + i ≡ q = omega arith in
