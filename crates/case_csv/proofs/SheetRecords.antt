@@ -175,40 +175,37 @@ entries_said number column entry p (suc n) h =
     rw (entry_ok (entry_text (entry p)) (entry p) (h p), entries_said number (column + 1) entry (p + 1) n h) refl
 
 module _ (names : List (List ℕ)) (alpha : Ratio) (k : Component) (inputs : Inputs) where
-  abbrev m : ℕ
-  m = length names
-
   -- what a case needs so that its sheet says it
   pub record IsSheetSaid : Type 0 where
     pub names_are : Each names IsWord
-    pub weights : (i : ℕ) → i < m → IsNumeralOf (number_word (ratio_at k.weights i)) (terms (ratio_at k.weights i))
-    pub p_values : (i : ℕ) → i < m → p_value_of (p_field inputs i) ≡ Ok (p_at inputs i)
-    pub entries : (i j : ℕ) → IsEntryText (entry_text (entry_at m k.edges i j)) (entry_at m k.edges i j)
+    pub weights : (i : ℕ) → i < length names → IsNumeralOf (number_word (ratio_at k.weights i)) (terms (ratio_at k.weights i))
+    pub p_values : (i : ℕ) → i < length names → p_value_of (p_field inputs i) ≡ Ok (p_at inputs i)
+    pub entries : (i j : ℕ) → IsEntryText (entry_text (entry_at (length names) k.edges i j)) (entry_at (length names) k.edges i j)
 
   abbrev cells_at : ℕ → Cells
   cells_at i = map bare (row_fields (content_with names alpha k inputs) i)
 
-  row_bare : IsSheetSaid → (i : ℕ) → i < m → cells_at i ≡ row_fields (content_with names alpha k inputs) i
+  row_bare : IsSheetSaid → (i : ℕ) → i < length names → cells_at i ≡ row_fields (content_with names alpha k inputs) i
   row_bare h i l =
       let weight = ratio_at k.weights i in
       ap₂ ◌∷◌ (word_bare (name_at names i) (h.names_are i (name_at names i) (slice_get-get_or names i [] l)))
-      (ap₂ ◌∷◌ (word_bare (number_word weight) (number_is_word weight)) (ap₂ ◌∷◌ (p_bare inputs i) (edges_bare (entry_at m k.edges i) 0 m)))
+      (ap₂ ◌∷◌ (word_bare (number_word weight) (number_is_word weight)) (ap₂ ◌∷◌ (p_bare inputs i) (edges_bare (entry_at (length names) k.edges i) 0 (length names))))
 
-  row_said : IsSheetSaid → (number i : ℕ) → i < m
+  row_said : IsSheetSaid → (number i : ℕ) → i < length names
       → row_of (length (header_fields names)) number (name_at names i) (row_fields (content_with names alpha k inputs) i) ≡ Ok (said_at names alpha k inputs i)
   row_said h number i l =
       let wide : (length (row_fields (content_with names alpha k inputs) i) == length (header_fields names)) ≡ true =
-      grind (arith, nat_tests, length-map-range_with_len (λ j. entry_text (entry_at m k.edges i j)) 0 m) in
+      grind (arith, nat_tests, length-map-range_with_len (λ j. entry_text (entry_at (length names) k.edges i j)) 0 (length names)) in
       let named : bytes_eq (name_at names i) (name_at names i) ≡ true = (bytes_eq-Decides (name_at names i) (name_at names i)).1 refl in
       rw (
         wide,
         named,
         numeral_ok (number_word (ratio_at k.weights i)) (ratio_at k.weights i) (h.weights i l),
         h.p_values i l,
-        entries_said number 4 (entry_at m k.edges i) 0 m (h.entries i),
+        entries_said number 4 (entry_at (length names) k.edges i) 0 (length names) (h.entries i),
       ) refl
 
-  pub each_row_said : IsSheetSaid → (number i : ℕ) → i < m
+  pub each_row_said : IsSheetSaid → (number i : ℕ) → i < length names
       → row_of (length (header_fields names)) number (name_at names i) (cells_at i) ≡ Ok (said_at names alpha k inputs i)
   each_row_said h number i l = ap (row_of (length (header_fields names)) number (name_at names i)) (row_bare h i l) ∙ row_said h number i l
 

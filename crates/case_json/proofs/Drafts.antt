@@ -23,7 +23,7 @@ use Rattle.case_json.specs.declared.fault.JsonFault.{JsonFault}
 use Rattle.case_json.specs.declared.fault.JsonFault.TheVariants as faults
 use Rattle.case_json.specs.Values.{IsJson, OrMemory, item_list, under}
 use Rattle.field_core.specs.Answers.{told_as}
-use Rattle.field_core.proofs.Results.{came_from, same_value}
+use Rattle.field_core.proofs.Results.{came_from, same_value, value_told}
 use Rattle.case_json.specs.Answers.{with_keys, Reader, part_at, at, part_or, at_or, each, list_of, IsAnswer}
 use Rattle.case_json.specs.Document.{edge_keys, component_keys, arrival_keys, stages_keys, document_keys}
 use Rattle.case_json.specs.Document.{one, number_of, place_of, text_of, count_of, weight_of, spend_of, hypothesis_of, edge_of, component_of, arrival_of, stages_of, some_stages, document_of, IsDraft}
@@ -36,11 +36,6 @@ use Rattle.case_json.proofs.Paths.{HasPath, fault_placed}
 -- what is read passes a test
 abbrev pub Tested : {A : Type 0} → Reader A → (A → Bool) → Type 0
 Tested read test = (d : Data) (a : _) → read d ≡ Ok a → test a ≡ true
-
--- what is reported of a value was one
-pub value_told : {A E F : Type 0} (tell : E → F) (r : Result A E) (a : A) → told_as tell r ≡ Ok a → r ≡ Ok a
-value_told tell (Ok b) a e = ap Ok (same_value b a e)
-value_told tell (Err fault) a e = absurd (cc e)
 
 module _ {A : Type 0} (read : Reader A) (test : A → Bool) (tested : Tested read test) where
   pub in_part : (key : List ℕ) (o : Option Data) (a : A) → part_at key read o ≡ Ok a → test a ≡ true

@@ -5,7 +5,7 @@ use Rattle.std.proofs.lemmas.Bool.{lt-ltb}
 use Rattle.field_core.specs.View.{terms}
 use Rattle.field_core.specs.declared.ratio.Ratio.{Ratio}
 use Rattle.fraction.proofs.SameRatios.{same_ratio}
-use Rattle.case_json.specs.Document.{nought}
+use Rattle.case_model.specs.Sums.{zero_ratio}
 use Rattle.case_json.specs.WholeRatios.{whole_by, whole_ratio}
 
 whole_found : (z : ℤ) (x : Ratio) (b : Bool) (e : nat_lt (unsigned_abs z) (2 ^ 64) ≡ b) → nat_lt (unsigned_abs z) (2 ^ 64) ≡ true
@@ -18,5 +18,5 @@ pub whole_is : (z : ℤ) (x : Ratio) → unsigned_abs z < 2 ^ 64 → terms x ≡
 unfolding whole_ratio
 whole_is z x small is = whole_found z x (nat_lt (unsigned_abs z) (2 ^ 64)) refl (lt-ltb (unsigned_abs z) (2 ^ 64) small) is
 
-pub nought_is : (x : Ratio) → whole_ratio (pos 0) ≡ Some x → x ≡ nought
-nought_is x e = let same : Some nought ≡ Some x = sym (whole_is (pos 0) nought (omega arith) refl) ∙ e in cc
+pub nought_is : (x : Ratio) → whole_ratio (pos 0) ≡ Some x → x ≡ zero_ratio
+nought_is x e = let same : Some zero_ratio ≡ Some x = sym (whole_is (pos 0) zero_ratio (omega arith) refl) ∙ e in cc

@@ -3,7 +3,8 @@ use Rattle.std.specs.Prelude.{◌≡◌, ◌^◌, ℕ, ℤ, pos, unsigned_abs, L
 use Rattle.std.specs.Prelude.{codes, nat_le, ok_or, option_and_then}
 use Rattle.field_core.specs.Answers.{and_then, ◌>>=◌, mapped, told_as}
 use Rattle.field_core.specs.declared.ratio.Ratio.{Ratio}
-use Rattle.fraction.specs.Plain.{zero_reduced, one_reduced}
+use Rattle.fraction.specs.Plain.{one_reduced}
+use Rattle.case_model.specs.Sums.{zero_ratio}
 use Rattle.fraction.specs.Numerals.{numeral_of}
 use Rattle.case_model.specs.declared.draft.Draft.{Draft}
 use Rattle.case_model.specs.declared.draft_component.DraftComponent.{DraftComponent}
@@ -56,13 +57,9 @@ abbrev pub hypothesis_of : List (List ℕ) → Reader ℕ
 hypothesis_of names (string s) = ok_or (position_of s names) (UnknownName [])
 hypothesis_of names other = wrong_kind
 
--- 0/1
-abbrev pub nought : Ratio
-nought = record { num = pos 0; den = pos 1; valid = zero_reduced }
-
 -- this whole number at power 0, and nothing above
 abbrev pub whole_entry : Ratio → List Ratio
-whole_entry x = x ∷ nought ∷ nought ∷ nought ∷ nought ∷ []
+whole_entry x = x ∷ zero_ratio ∷ zero_ratio ∷ zero_ratio ∷ zero_ratio ∷ []
 
 -- a whole number as the weight of an edge: of at most 10^18 in size
 abbrev pub short_weight : Bool → Ratio → Result (List Ratio) JsonFault

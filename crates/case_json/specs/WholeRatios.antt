@@ -3,13 +3,9 @@ use Rattle.std.specs.Prelude.{◌≡◌, ◌<◌, ◌^◌, ℕ, ℤ, pos, unsign
 use Rattle.std.proofs.Common.{arith, lit<}
 use Rattle.std.proofs.lemmas.Bool.{ltb-true}
 use Rattle.std.proofs.lemmas.Int.{ints}
-use Rattle.field_core.specs.Divisor.{gcd}
 use Rattle.field_core.specs.Terms.{IsReduced}
 use Rattle.field_core.specs.declared.ratio.Ratio.{Ratio}
-use Rattle.field_core.proofs.Coprime.{gcd_bounds}
-
-over_one : (n : ℕ) → gcd n 1 ≡ 1
-over_one n = let bounds = gcd_bounds n 1 (omega arith) in omega (arith, bounds.0, bounds.1)
+use Rattle.field_core.proofs.Coprime.{gcd_one}
 
 narrow : (n : ℕ) → n < 2 ^ 64 → n < 2 ^ 127
 narrow n small = omega (arith, small)
@@ -20,7 +16,7 @@ whole_reduced z small = record {
   positive = omega (arith, ints);
   num_size = narrow (unsigned_abs z) small;
   den_size = lit< tt;
-  reduced = over_one (unsigned_abs z);
+  reduced = gcd_one (unsigned_abs z);
 }
 
 abbrev pub whole_by : (z : ℤ) (b : Bool) → nat_lt (unsigned_abs z) (2 ^ 64) ≡ b → Option Ratio

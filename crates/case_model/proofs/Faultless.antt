@@ -18,6 +18,7 @@ use Rattle.case_model.specs.CaseFaults.{◌or◌, names_fault, no_hypothesis, to
 use Rattle.case_model.specs.CaseFaults.{shares_fault, weights_fault, edges_fault, fault_before_edges, early_fault, late_fault, case_fault}
 use Rattle.case_model.specs.Tables.{are_tables}
 use Rattle.case_model.proofs.NoFaults.{neither, no_when}
+use Rattle.field_core.proofs.Positions.{test_same}
 
 pub first_of_two : (a b : Option CaseFault) (f : CaseFault) → a ≡ Some f → (a or b) ≡ Some f
 first_of_two a b f e = ap (λ r. r or b) e
@@ -74,14 +75,11 @@ pub length-table_of : (m : ℕ) (es : List DraftEdge) → length (table_of m es)
 unfolding table_of
 length-table_of m es = length-map-range_with_len _ 0 (m * m)
 
-same_is : (a b : ℕ) → a ≡ b → (a == b) ≡ true
-same_is a b e = grind (arith, nat_tests)
-
 pub are_tables-tabled : (m : ℕ) (ks : List DraftComponent) → are_tables m (map (tabled m) ks) ≡ true
 unfolding are_tables
 are_tables-tabled m [] = refl
 are_tables-tabled m (k ∷ ks) = ap (λ b. b && list_all (λ k. length k.edges == m * m) (map (tabled m) ks))
-    (same_is (length (table_of m k.edges)) (m * m) (length-table_of m k.edges)) ∙ are_tables-tabled m ks
+    (test_same (length (table_of m k.edges)) (m * m) (length-table_of m k.edges)) ∙ are_tables-tabled m ks
 
 pub content_of-components : (d : Draft) → (content_of d).components ≡ map (tabled (length d.names)) d.components
 unfolding content_of

@@ -18,7 +18,7 @@ use Rattle.field_core.specs.Laws.NumberFieldLaws.{field_zero, sum_nothing, sum_l
 use Rattle.field_core.specs.Laws.Order.{number_multiply_zero}
 use Rattle.field_core.proofs.SumLaws.{sum_congr, sum_zero, sum_scale, sum_swap}
 use Rattle.field_core.proofs.Live.{true_or_false}
-use Rattle.field_core.proofs.UnitLimits.{limit_unit, limit_zero}
+use Rattle.field_core.proofs.UnitLimits.{limit_unit, limit_zero, finite}
 use Rattle.field_core.proofs.Weights.{weight_in_is}
 use Rattle.field_core.proofs.WeightLaws.{weights_total}
 use Rattle.field_core.proofs.NumberWeights.{weight_unit}
@@ -39,9 +39,6 @@ limit_of_sum zero f h = ap limit (sum_nothing f) ∙ limit_zero ∙ sym (sum_not
 limit_of_sum (suc n) f h =
     ap limit (sum_last n f) ∙ limit_add _ _ (finite_sum n f (λ i p. h i (omega arith))) (h n (omega arith))
     ∙ ap (λ z. z +ε limit (f n)) (limit_of_sum n f (λ i p. h i (omega arith))) ∙ sym (sum_last n (λ i. limit (f i)))
-
-unit_finite : (x : Number) → IsUnit x → IsFinite x
-unit_finite x h = finite_between x (at_most_out number_zero x h.low) (at_most_out x number_one h.high)
 
 -- ---- the weights of a set
 
@@ -76,7 +73,7 @@ member_unit m G I k V q = elim (true_or_false (I k)) [
 -- the limits of the weights of a component sum to at most 1
 limit_total : (m : ℕ) (G : Graph Number) (I : ℕ → Bool) → IsValid number_field m G
     → sum_below number_field m (λ k. limit (member_weight m G I k)) ≤ε number_one
-limit_total m G I V = subst (λ z. z ≤ε number_one) (limit_of_sum m (member_weight m G I) (λ k q. unit_finite _ (member_unit m G I k V q)))
+limit_total m G I V = subst (λ z. z ≤ε number_one) (limit_of_sum m (member_weight m G I) (λ k q. finite _ (member_unit m G I k V q)))
     (limit_unit _ total).high
   where
     total : IsUnit (sum_below number_field m (member_weight m G I))

@@ -8,6 +8,7 @@ use Rattle.field_core.specs.declared.ratio.Ratio.{Ratio}
 use Rattle.fraction.proofs.SameRatios.{same_ratio}
 use Rattle.fraction.specs.Plain.{plain, single, fraction_parts}
 use Rattle.case_model.specs.Sums.{zero_terms, zero_ratio, terms_at, ratio_at}
+use Rattle.field_core.proofs.Heads.{heads}
 
 pub from_single : (s t : Terms) → single s ≡ single t → s ≡ t
 from_single s t e = ap₂ (λ n d. record { num = n; den = d }) (ap (λ (p : Parts). first p.numerator) e) (ap (λ (p : Parts). first p.denominator) e)
@@ -18,15 +19,12 @@ zero_of z e = same_ratio z zero_ratio (from_single (terms z) zero_terms e)
 
 -- ---- lists
 
-rest_same : {A : Type 0} (x y : A) (xs ys : List A) → x ∷ xs ≡ y ∷ ys → (x ≡ y) × (xs ≡ ys)
-rest_same x y xs ys e = (cc, cc)
-
 -- fractions of the same terms are the same, one by one
 pub same_ratios : (xs ys : List Ratio) → map terms xs ≡ map terms ys → xs ≡ ys
 same_ratios [] [] e = refl
 same_ratios [] (y ∷ ys) e = absurd (cc)
 same_ratios (x ∷ xs) [] e = absurd (cc)
-same_ratios (x ∷ xs) (y ∷ ys) e = let same = rest_same (terms x) (terms y) (map terms xs) (map terms ys) e in ap₂ ◌∷◌ (same_ratio x y same.0)
+same_ratios (x ∷ xs) (y ∷ ys) e = let same = heads (terms x) (terms y) (map terms xs) (map terms ys) e in ap₂ ◌∷◌ (same_ratio x y same.0)
     (same_ratios xs ys same.1)
 
 -- the terms at a place are those of the fraction there

@@ -1,9 +1,8 @@
 use Rattle.std.proofs.Common.{◌≡◌, refl, sym, ap, ap₂, subst, subst₂, ◌∙◌, ℕ, zero, suc, ◌*◌, ◌/◌, ◌^◌, ◌<◌, ◌≤◌, inl}
-use Rattle.std.proofs.Common.{inr, ℤ, pos, negsuc, neg_ℤ, ◌*ℤ◌, ◌≤ℤ◌, unsigned_abs, int_div, Some, None, Bool, true, false, not, arith, lit<}
+use Rattle.std.proofs.Common.{inr, ℤ, pos, negsuc, neg_ℤ, ◌*ℤ◌, ◌≤ℤ◌, unsigned_abs, int_div, Some, None, true, false, not, arith, lit<}
 use Rattle.std.proofs.Common.{nat_le, ◌&&◌}
-use Rattle.std.proofs.lemmas.Int.{ints, unsigned_abs-mul}
+use Rattle.std.proofs.lemmas.Int.{ints}
 use Rattle.std.proofs.lemmas.Bool.Decides.{nat_tests}
-use Rattle.std.proofs.Math.Nat.{div-le_self, mul-le-mul_left, mul-le-mul_right}
 use Rattle.std.specs.Ordering.{is_le, int_cmp}
 use Rattle.field_core.specs.Terms.{Terms}
 use Rattle.field_core.specs.View.{terms}
@@ -33,8 +32,9 @@ use Rattle.case_model.specs.ClosedTest.{Passes}
 use Rattle.case_model.proofs.Comparisons.{le_is, at_most_is, zero_is, one_is}
 use Rattle.field_core.specs.Laws.NumberFieldLaws.{field_zero, field_product}
 use Rattle.case_model.proofs.Holding.{both}
-use Rattle.case_model.proofs.NoFaults.{nothing_mapped}
+use Rattle.case_model.proofs.NoFaults.{nothing_mapped, not_true}
 use Rattle.case_model.proofs.ExactSums.{value_single}
+use Rattle.fraction.proofs.ShortTerms.{abs_quotients}
 
 int_le : (a b : ℤ) → is_le (int_cmp a b) ≡ true → a ≤ℤ b
 int_le a b h = grind (arith, nat_tests, ints)
@@ -50,29 +50,10 @@ unit_parts x h =
     let some = x.valid.positive in
     omega (arith, ints)
 
-neg_size : (n : ℕ) → unsigned_abs (neg_ℤ (pos n)) ≡ n
-neg_size zero = refl
-neg_size (suc n) = refl
-
--- a quotient is no larger
-quotient_size : (z : ℤ) (g : ℕ) → unsigned_abs (int_div z (pos g)) ≤ unsigned_abs z
-quotient_size (pos n) g = div-le_self n g
-quotient_size (negsuc n) g = rw (neg_size (suc n / g)) (div-le_self (suc n) g)
-
-product_size : (a b c d : ℕ) → a ≤ c → b ≤ d → a * b ≤ c * d
-product_size a b c d h k =
-    let left : a * b ≤ c * b = mul-le-mul_right b h in
-    let right : c * b ≤ c * d = mul-le-mul_left c k in
-    omega arith
-
-part_size : (u v : ℤ) (g h a b : ℕ) → unsigned_abs u ≤ a → unsigned_abs v ≤ b → unsigned_abs (int_div u (pos g) *ℤ int_div v (pos h)) ≤ a * b
-part_size u v g h a b p q = rw (unsigned_abs-mul (int_div u (pos g)) (int_div v (pos h)))
-    (product_size _ _ a b (let s = quotient_size u g in omega arith) (let s = quotient_size v h in omega arith))
-
 fits : (u v : ℤ) (g h a b : ℕ) → unsigned_abs u ≤ a → unsigned_abs v ≤ b → a * b < 2 ^ 127
     → sized (int_div u (pos g) *ℤ int_div v (pos h)) ≡ Some (int_div u (pos g) *ℤ int_div v (pos h))
 fits u v g h a b p q small =
-    let size = part_size u v g h a b p q in
+    let size = abs_quotients u v g h a b p q in
     sized_small _ (omega arith)
 
 -- what is known of a number with small parts
@@ -100,7 +81,7 @@ product_short x y z a b p q small h =
     let low = fits x.den y.den k g a b p.den q.den small in
     let same = rw (top, low) at h in
     let e : record { num = int_div x.num (pos g) *ℤ int_div y.num (pos k); den = int_div x.den (pos k) *ℤ int_div y.den (pos g) } ≡ z = cc in
-    subst (λ t. IsShort t (a * b)) e (record { num = part_size x.num y.num g k a b p.num q.num; den = part_size x.den y.den k g a b p.den q.den })
+    subst (λ t. IsShort t (a * b)) e (record { num = abs_quotients x.num y.num g k a b p.num q.num; den = abs_quotients x.den y.den k g a b p.den q.den })
 
 -- a product of small parts is never too wide
 pub product_fits : (x y : Terms) (a b : ℕ) → unsigned_abs x.num ≤ a → unsigned_abs x.den ≤ a → unsigned_abs y.num ≤ b → unsigned_abs y.den ≤ b
@@ -136,17 +117,13 @@ pub record IsLevel (x : Ratio) : Type 0 where
   positive : at_most (number_of x) number_zero ≡ false
   high : at_most (number_of x) number_one ≡ true
 
-not_false : (b : Bool) → not b ≡ true → b ≡ false
-not_false false h = refl
-not_false true h = absurd (cc)
-
 pub level_of : (x : Ratio) → is_level x ≡ true → IsLevel x
 unfolding is_level
 level_of x h =
     let a = both (is_within 10000 (terms x)) (not (at_most (number_of x) number_zero) && at_most (number_of x) number_one) h in
     let b = both (not (at_most (number_of x) number_zero)) (at_most (number_of x) number_one) a.right in
     let c = both (nat_le (unsigned_abs x.num) 10000) (nat_le (unsigned_abs x.den) 10000) a.left in
-    record { short = record { num = grind (arith, nat_tests, c.left); den = grind (arith, nat_tests, c.right) }; positive = not_false _ b.left; high = b.right }
+    record { short = record { num = grind (arith, nat_tests, c.left); den = grind (arith, nat_tests, c.right) }; positive = not_true _ b.left; high = b.right }
 
 nothing_below : at_most number_zero number_zero ≡ true
 nothing_below = number_field.le_refl number_zero

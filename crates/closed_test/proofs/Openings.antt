@@ -1,5 +1,5 @@
 -- The opening of a case, which begins the run of each set.
-use Rattle.std.proofs.Common.{◌≡◌, refl, sym, ap, ◌∙◌, ℕ, ◌<◌, List, [], ◌∷◌, ◌++◌, length, get_or, Result, Ok, Err}
+use Rattle.std.proofs.Common.{◌≡◌, refl, sym, ap, ◌∙◌, ℕ, ◌<◌, List, [], ◌∷◌, ◌++◌, length, get_or, Ok, Err}
 use Rattle.field_core.specs.declared.place.WideAt.{WideAt}
 use Rattle.case_model.specs.Content.{Content}
 use Rattle.removal.specs.InTurn.{removed_in_turn}
@@ -7,6 +7,7 @@ use Rattle.entangled.specs.CaseRun.{CaseState, case_opening, case_size, case_num
 use Rattle.entangled.specs.CaseAfter.{case_after}
 use Rattle.entangled.proofs.CaseRuns.{last_step}
 use Rattle.closed_test.specs.Walks.{IsFirstUndefined, AreStatesAlong, AreLikeTheFirst}
+use Rattle.field_core.specs.Laws.Prefixes.{ok_same}
 
 -- the run of the set of all is the opening
 pub only_opened : (c : Content) → case_after c [] ≡ case_opening c
@@ -28,11 +29,8 @@ opened_along c states count some each js ks d e =
     let f = nothing_before js ks e in
     ap (case_after c) f ∙ only_opened c ∙ each 0 d some ∙ ap (λ xs. Ok (get_or states (length xs) d)) (sym f)
 
-one_opening : (r : Result CaseState WideAt) (s t : CaseState) → r ≡ Ok s → r ≡ Ok t → s ≡ t
-one_opening r s t h k = cc
-
 pub opened_alike : (c : Content) (states : List CaseState) (count : ℕ) → 0 < count
     → ((n : ℕ) (d : CaseState) → n < count → case_opening c ≡ Ok (get_or states n d)) → AreLikeTheFirst count states
 opened_alike c states count some each n d h =
-    let e = one_opening (case_opening c) (get_or states n d) (get_or states 0 d) (each n d h) (each 0 d some) in
+    let e = ok_same (case_opening c) (get_or states n d) (get_or states 0 d) (each n d h) (each 0 d some) in
     record { numbers = ap case_numbers e; size = ap case_size e; shares = ap case_shares e }

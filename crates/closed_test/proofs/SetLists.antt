@@ -19,6 +19,8 @@ use Rattle.closed_test.specs.Paths.{number_without}
 use Rattle.closed_test.specs.SetRuns.{set_run, IsEarlierSet, AreRunsDefined, IsFirstWideSet}
 use Rattle.closed_test.specs.SetLists.{AreSetsInOrder}
 use Rattle.closed_test.proofs.SetTables.{left_out_is}
+use Rattle.field_core.proofs.Results.{one_fault}
+use Rattle.field_core.proofs.ListOrder.{not_itself}
 
 -- ---- what comes before
 
@@ -34,11 +36,6 @@ before_both (j ∷ js) (k ∷ ks) (l ∷ ls) (inl p) (inl q) = inl (omega (arith
 before_both (j ∷ js) (k ∷ ks) (l ∷ ls) (inl p) (inr q) = inl (omega (arith, p, q.0))
 before_both (j ∷ js) (k ∷ ks) (l ∷ ls) (inr p) (inl q) = inl (omega (arith, p.0, q))
 before_both (j ∷ js) (k ∷ ks) (l ∷ ls) (inr p) (inr q) = inr (p.0 ∙ q.0, before_both js ks ls p.1 q.1)
-
-not_before_itself : (js : List ℕ) → ComesBefore js js → ⊥
-not_before_itself [] b = b
-not_before_itself (j ∷ js) (inl p) = absurd (omega (arith, p))
-not_before_itself (j ∷ js) (inr p) = not_before_itself js p.1
 
 -- ---- a list in a strict order is known by its items
 
@@ -93,8 +90,8 @@ module _ (R : ℕ → ℕ → Type 0) (itself : (n : ℕ) → R n n → ⊥) (bo
 -- there is one list of all sets in their order
 pub sets_unique : (m : ℕ) (xs ys : List ℕ) → AreSetsInOrder m xs → AreSetsInOrder m ys → xs ≡ ys
 sets_unique m xs ys X Y =
-    ordered_unique (IsEarlierSet m) (λ n. not_before_itself (left_out m (members n)))
-    (λ n o p q. not_before_itself (left_out m (members n)) (before_both (left_out m (members n)) (left_out m (members o)) (left_out m (members n)) p q))
+    ordered_unique (IsEarlierSet m) (λ n. not_itself (left_out m (members n)))
+    (λ n o p q. not_itself (left_out m (members n)) (before_both (left_out m (members n)) (left_out m (members o)) (left_out m (members n)) p q))
     xs ys X.ordered Y.ordered (λ n c. Y.each n (All-contains (λ o. o < 2 ^ m) xs n X.sets_of c))
     (λ n c. X.each n (All-contains (λ o. o < 2 ^ m) ys n Y.sets_of c))
 
@@ -186,9 +183,6 @@ before_or_behind (j ∷ js) (k ∷ ks) = elim (compared j k) [
 not_both : (r : Result CaseState WideAt) (s : CaseState) (w : WideAt) → r ≡ Ok s → r ≡ Err w → ⊥
 not_both r s w e f = cc
 
-one_error : (r : Result CaseState WideAt) (v w : WideAt) → r ≡ Err v → r ≡ Err w → v ≡ w
-one_error r v w e f = cc
-
 pub defined_not_wide : (c : Content) (n : ℕ) (w : WideAt) → AreRunsDefined c → ¬ IsFirstWideSet c n w
 defined_not_wide c n w D F = let d = D n F.below in not_both (set_run c n) d.0 w d.1 F.wide
 
@@ -207,4 +201,4 @@ module _ (c : Content) (n o : ℕ) (v w : WideAt) (F : IsFirstWideSet c n v) (G 
   ]
 
   pub first_wide_unique : (n ≡ o) × (v ≡ w)
-  first_wide_unique = (same_set, one_error (set_run c o) v w (ap (set_run c) (sym same_set) ∙ F.wide) G.wide)
+  first_wide_unique = (same_set, one_fault (set_run c o) v w (ap (set_run c) (sym same_set) ∙ F.wide) G.wide)

@@ -1,5 +1,5 @@
 -- A step of the walk through the sets.
-use Rattle.std.proofs.Common.{◌≡◌, ◌≢◌, ◌⊎◌, inl, inr, refl, sym, ap, ap₂, subst, ◌∙◌, ℕ, suc, ◌+◌, ◌-◌, ◌^◌, ◌<◌}
+use Rattle.std.proofs.Common.{◌≡◌, ◌≢◌, ◌⊎◌, inl, inr, refl, sym, ap, ap₂, subst, ◌∙◌, ℕ, suc, ◌+◌, ◌-◌, ◌^◌, ◌<◌, add-one}
 use Rattle.std.proofs.Common.{◌≤◌, arith, true, List, [], ◌∷◌, ◌++◌, append_assoc, length, length-append, get_or, Ok, Err}
 use Rattle.field_core.specs.declared.ratio.Ratio.{Ratio}
 use Rattle.field_core.specs.declared.place.WideAt.{WideAt}
@@ -22,6 +22,7 @@ use Rattle.entangled.proofs.CaseRuns.{after_next}
 use Rattle.closed_test.specs.Paths.{number_without}
 use Rattle.closed_test.specs.Walks.{IsTabled, AreTabledTo, IsFirstUndefined, AreStatesAlong, AreAlike, AreLikeTheFirst}
 use Rattle.closed_test.proofs.LeftLists.{stays, begins}
+use Rattle.field_core.proofs.RemovalLaws.{same_or_not}
 
 -- the number of a set is below that of all sets
 pub set_fits : (set size m t : ℕ) (left : List ℕ) → set ≡ number_without size left → size ≡ m → t ≡ m → set < 2 ^ t
@@ -55,9 +56,6 @@ beginning (j ∷ js) ks (p ∷ parent) l e =
       | inr f ↦ inr (ap₂ ◌∷◌ (sym head) f)
     ]
 
-add_one : (n : ℕ) → n + 1 ≡ suc n
-add_one n = omega arith
-
 states_next : (c : Content) (old new parent rest : List ℕ) (l : ℕ) (states nexts : List CaseState) → old ≡ parent ++ rest → new ≡ parent ++ l ∷ []
     → AreStatesAlong c old states → ((n : ℕ) (d : CaseState) → n ≤ length parent → get_or nexts n d ≡ get_or states n d)
     → ((d : CaseState) → case_removal (get_or states (length parent) d) l ≡ Ok (get_or nexts (suc (length parent)) d)) → AreStatesAlong c new nexts
@@ -66,7 +64,7 @@ states_next c old new parent rest l states nexts was is along same removal js ks
       let long : length js ≤ length parent = rw (x.1, length-append js x.0) (omega arith) in
       along js (x.0 ++ rest) d (was ∙ ap (λ xs. xs ++ rest) x.1 ∙ append_assoc js x.0 rest) ∙ ap Ok (sym (same (length js) d long))
   | inr f ↦
-      let long : length js ≡ suc (length parent) = ap length f ∙ length-append parent (l ∷ []) ∙ add_one (length parent) in
+      let long : length js ≡ suc (length parent) = ap length f ∙ length-append parent (l ∷ []) ∙ add-one (length parent) in
       ap (case_after c) f ∙ after_next c parent (get_or states (length parent) d) l (along parent rest d was) ∙ removal d
       ∙ ap (λ n. Ok (get_or nexts n d)) (sym long)
 ]
@@ -114,7 +112,7 @@ module _ (c : Content) (V : IsValidContent c) (old new : List ℕ) (l : ℕ) (st
       omega (arith, a, e)
 
   pub one_deeper : (len : ℕ) → len ≡ length new → len ≡ suc (length step.parent)
-  one_deeper len e = e ∙ ap length step.is ∙ length-append step.parent (l ∷ []) ∙ add_one (length step.parent)
+  one_deeper len e = e ∙ ap length step.is ∙ length-append step.parent (l ∷ []) ∙ add-one (length step.parent)
 
   pub short : length step.parent + 1 ≤ length c.names
   short =
@@ -164,9 +162,6 @@ module _ (c : Content) (V : IsValidContent c) (old new : List ℕ) (l : ℕ) (st
       | inl e ↦ subst (λ i. AreAlike (get_or nexts i d) (get_or nexts 0 d)) (sym e) (next_alike d (P depth d (omega (arith, at, short))))
       | inr f ↦ rw (others n d f, others 0 d (omega arith)) (P n d h)
     ]
-      where
-        same_or_not : (i k : ℕ) → (i ≡ k) ⊎ (i ≢ k)
-        same_or_not i k = grind arith
 
   pub step_tabled : (weight next : ℕ → ℕ → Ratio) (set : ℕ) → length c.names ≤ 16 → set ≡ number_without (length c.names) new
       → IsTabled c next new

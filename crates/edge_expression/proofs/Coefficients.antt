@@ -1,5 +1,5 @@
 -- Coefficients of polynomials, one after the other.
-use Rattle.std.proofs.Common.{◌≡◌, refl, sym, ap, ◌∙◌, ℕ, zero, suc, ◌+◌, ◌-◌, ◌<◌, ◌≤◌, inl, inr, List, length, map, get_or}
+use Rattle.std.proofs.Common.{◌≡◌, refl, sym, ap, ◌∙◌, ℕ, zero, suc, ◌+◌, ◌-◌, ◌<◌, ◌≤◌, inl, inr, List, length, map, get_or, add-one}
 use Rattle.std.proofs.Common.{true, false, cond, Result, Ok, Err, arith}
 use Rattle.std.proofs.lemmas.Bool.{cases_lt}
 use Rattle.field_core.specs.Terms.{Terms}
@@ -53,18 +53,15 @@ product_next : (x y : List Terms) (k i : ℕ)
 unfolding product_sum
 product_next x y k i = refl
 
-next : (n : ℕ) → n + 1 ≡ suc n
-next n = omega arith
-
 -- with a product more
 pub product_more : (x y : List Terms) (k i : ℕ) (s p a b : Terms) → product_sum x y k i ≡ Ok s → terms_at x i ≡ a
     → terms_at y (k - i) ≡ b → product a b ≡ Ok p → product_sum x y k (i + 1) ≡ sum s p
-product_more x y k i s p a b h e f g = ap (product_sum x y k) (next i) ∙ product_next x y k i ∙ rw (h, e, f, g) refl
+product_more x y k i s p a b h e f g = ap (product_sum x y k) (add-one i) ∙ product_next x y k i ∙ rw (h, e, f, g) refl
 
 -- a product that is refused
 pub product_refused : (x y : List Terms) (k i : ℕ) (s a b : Terms) (f : ValueFault) → product_sum x y k i ≡ Ok s → terms_at x i ≡ a
     → terms_at y (k - i) ≡ b → product a b ≡ Err f → product_sum x y k (i + 1) ≡ Err f
-product_refused x y k i s a b f h e g r = ap (product_sum x y k) (next i) ∙ product_next x y k i ∙ rw (h, e, g, r) refl
+product_refused x y k i s a b f h e g r = ap (product_sum x y k) (add-one i) ∙ product_next x y k i ∙ rw (h, e, g, r) refl
 
 -- a fault stays
 pub product_stops : (x y : List Terms) (k i n : ℕ) (f : ValueFault) → i + 1 ≤ n → product_sum x y k (i + 1) ≡ Err f → product_sum x y k n ≡ Err f

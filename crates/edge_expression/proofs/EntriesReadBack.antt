@@ -35,6 +35,7 @@ use Rattle.edge_expression.proofs.SignedEntries.{all_five}
 use Rattle.edge_expression.proofs.EntryTerms.{over_of, lead, IsTerm, term_of}
 use Rattle.edge_expression.proofs.ShortNumbers.{short_parts}
 use Rattle.edge_expression.proofs.PrintedTerms.{zero_at}
+use Rattle.edge_expression.proofs.Evaluations.{with_none, with_next}
 
 -- each coefficient is in lowest terms, with short parts
 pub AreShort : List Terms → Type 0
@@ -136,15 +137,6 @@ next_text : (f : Bool) (p n : ℕ) (e : List Terms) (b : Bool) → is_zero (term
 unfolding terms_text
 next_text f p n e b h = ap (λ c. cond c (terms_text f (suc p) n e) (joined_term f p (terms_at e p) ++ terms_text false (suc p) n e)) h
 
-no_more : (v : List Terms) → with_terms v NoTerm ≡ Ok v
-unfolding with_terms
-no_more v = refl
-
-and_more : (v : List Terms) (sign : Sign) (t : Term) (ts : MoreTerms)
-    → with_terms v (AndTerm sign t ts) ≡ (term_value t >>= λ x. joined sign v x >>= λ l. with_terms l ts)
-unfolding with_terms
-and_more v sign t ts = refl
-
 sign_text_is : (b : Bool) → joint_text false b ≡ token_text (SignToken (sign_if b))
 unfolding sign_if
 sign_text_is true = refl
@@ -173,7 +165,7 @@ more_term e p n b s h z neg m =
           (term_text p (absolute (terms_at e p)) ++ rest)
           (piece_text false p n e b z neg ∙ ap (λ (y : List ℕ). y ++ (term_text p (absolute (terms_at e p)) ++ rest)) (sign_text_is b))
           (t.spelt (terms_tokens m.terms []) rest m.spelt);
-      answer = and_more (tabled (upto e p)) (sign_if b) t.term m.terms ∙ rw (t.answer, join_by e p b neg s) m.answer;
+      answer = with_next (tabled (upto e p)) (sign_if b) t.term m.terms ∙ rw (t.answer, join_by e p b neg s) m.answer;
     }
 
 skipped : (e : List Terms) (p n : ℕ) → AreShort e → is_zero (terms_at e p) ≡ true → IsMore e (suc p) n → IsMore e p (suc n)
@@ -196,7 +188,7 @@ more e zero p s h =
     record {
       terms = NoTerm;
       spelt = subst (IsSpelt []) (sym (none_text false p e)) tt;
-      answer = no_more (tabled (upto e p))
+      answer = with_none (tabled (upto e p))
           ∙ ap (λ q. Ok (tabled (upto e q))) last;
     }
 more e (suc n) p s h = more_by e p n (is_zero (terms_at e p)) s (omega (arith, h)) refl (more e n (suc p) s (omega (arith, h)))
@@ -296,7 +288,7 @@ nought e =
     record {
       expression = Sum None t.term NoTerm;
       spells = subst (IsSpelt (term_tokens t.term [])) (ap (λ (x : List ℕ). x ++ []) nought_text) (t.spelt [] [] tt);
-      answer = sum_is None t.term NoTerm ∙ rw (t.answer, nought_sum) (no_more zero_coefficients);
+      answer = sum_is None t.term NoTerm ∙ rw (t.answer, nought_sum) (with_none zero_coefficients);
     }
 
 -- an entry whose coefficients are all 0

@@ -42,35 +42,15 @@ use Rattle.edge_expression.proofs.ShortOperations.{some_number}
 use Rattle.numerals.specs.Lowest.{lowest_terms}
 use Rattle.numerals.specs.Decimals.{Decimal, has_too_many_digits, decimal_value}
 use Rattle.fraction.proofs.DecimalValues.{decimal_some}
+use Rattle.field_core.proofs.Results.{same_value}
 
 -- ---- identities of numbers
 
--- the value of five coefficients, with these powers
-unfoldable pub five : (a b c d e p q r s t : Value) → Value
-five a b c d e p q r s t = number_zero +ε a *ε p +ε b *ε q +ε c *ε r +ε d *ε s +ε e *ε t
-
-five_sums : (a b c d e f g h i j p q r s t : Value)
-    → five (a +ε f) (b +ε g) (c +ε h) (d +ε i) (e +ε j) p q r s t ≡ five a b c d e p q r s t +ε five f g h i j p q r s t
-unfolding five
-five_sums a b c d e f g h i j p q r s t = simp number_laws
-
-five_differences : (a b c d e f g h i j p q r s t : Value)
-    → five (a -ε f) (b -ε g) (c -ε h) (d -ε i) (e -ε j) p q r s t ≡ five a b c d e p q r s t -ε five f g h i j p q r s t
-unfolding five
-five_differences a b c d e f g h i j p q r s t = simp number_laws
-
-five_quotients : (a b c d e y p q r s t : Value) → five (a /ε y) (b /ε y) (c /ε y) (d /ε y) (e /ε y) p q r s t ≡ five a b c d e p q r s t /ε y
-unfolding five
-five_quotients a b c d e y p q r s t = simp number_laws
-
-five_first : (a q r s t : Value) → five a number_zero number_zero number_zero number_zero number_one q r s t ≡ a
-unfolding five
-five_first a q r s t = simp number_laws
-
--- with the powers of a number
+-- the value of five coefficients, with the powers of a number
 unfoldable pub by_powers : (a b c d e x : Value) → Value
 by_powers a b c d e x =
-    five a b c d e number_one (x *ε number_one) (x *ε (x *ε number_one)) (x *ε (x *ε (x *ε number_one))) (x *ε (x *ε (x *ε (x *ε number_one))))
+    number_zero +ε a *ε number_one +ε b *ε (x *ε number_one) +ε c *ε (x *ε (x *ε number_one)) +ε d *ε (x *ε (x *ε (x *ε number_one)))
+    +ε e *ε (x *ε (x *ε (x *ε (x *ε number_one))))
 
 -- the sum of the first n products of coefficients that make power k
 unfoldable pub products : (ℕ → Value) → (ℕ → Value) → ℕ → ℕ → Value
@@ -118,7 +98,7 @@ product_by a b c d e f g h i j x = simp number_laws
 
 pub product_of : (a b c d e f g h i j x : Value)
     → low_products a b c d e f g h i j x +ε past a b c d e f g h i j x ≡ by_powers a b c d e x *ε by_powers f g h i j x
-unfolding low_products past by_powers five
+unfolding low_products past by_powers
 product_of a b c d e f g h i j x = product_by a b c d e f g h i j x
 
 zeros : (p q r s t u v w x y : Value)
@@ -148,7 +128,7 @@ pub record IsMeant (x : List Terms) (v : Value) : Type 0 where
   pub is : terms_value x ≡ v
 
 value_by_powers : (x : List Terms) → terms_value x ≡ by_powers (value_at x 0) (value_at x 1) (value_at x 2) (value_at x 3) (value_at x 4) epsilon
-unfolding terms_value power_of_epsilon by_powers five
+unfolding terms_value power_of_epsilon by_powers
 value_by_powers x = sum_of_five (λ k. value_at x k *ε power_of_epsilon k)
 
 as_meant : (x : List Terms) (v w : Value) → v ≡ w → IsMeant x v → IsMeant x w
@@ -180,9 +160,6 @@ of_five a b c d e u v w x y p q r s t =
 
 -- ---- results
 
-same_ok : (x y : List Terms) → Path (Result (List Terms) ValueFault) (Ok x) (Ok y) → x ≡ y
-same_ok x y h = cc
-
 -- coefficients that are these numbers, where all are made
 all_meant : (f : ℕ → Result Terms ValueFault) (g : ℕ → Value) (z : List Terms) → coefficients f ≡ Ok z
     → ((k : ℕ) (t : Terms) → f k ≡ Ok t → IsNumber t (g k)) → IsMeant z (by_powers (g 0) (g 1) (g 2) (g 3) (g 4) epsilon)
@@ -194,33 +171,27 @@ all_meant f g z h is =
     let d = bind_ok (f 3) _ z c.1.1 in
     let e = bind_ok (f 4) _ z d.1.1 in
     let n = of_five a.0 b.0 c.0 d.0 e.0 (g 0) (g 1) (g 2) (g 3) (g 4) (is 0 a.0 a.1.0) (is 1 b.0 b.1.0) (is 2 c.0 c.1.0) (is 3 d.0 d.1.0) (is 4 e.0 e.1.0) in
-    subst (λ l. IsMeant l (by_powers (g 0) (g 1) (g 2) (g 3) (g 4) epsilon)) (same_ok (a.0 ∷ b.0 ∷ c.0 ∷ d.0 ∷ e.0 ∷ []) z e.1.1) n
+    subst (λ l. IsMeant l (by_powers (g 0) (g 1) (g 2) (g 3) (g 4) epsilon)) (same_value (a.0 ∷ b.0 ∷ c.0 ∷ d.0 ∷ e.0 ∷ []) z e.1.1) n
 
 -- ---- sums and differences
 
 plus_powers : (a b c d e f g h i j x : Value)
     → by_powers (a +ε f) (b +ε g) (c +ε h) (d +ε i) (e +ε j) x ≡ by_powers a b c d e x +ε by_powers f g h i j x
 unfolding by_powers
-plus_powers a b c d e f g h i j x =
-    five_sums a b c d e f g h i j number_one (x *ε number_one) (x *ε (x *ε number_one)) (x *ε (x *ε (x *ε number_one)))
-    (x *ε (x *ε (x *ε (x *ε number_one))))
+plus_powers a b c d e f g h i j x = simp number_laws
 
 minus_powers : (a b c d e f g h i j x : Value)
     → by_powers (a -ε f) (b -ε g) (c -ε h) (d -ε i) (e -ε j) x ≡ by_powers a b c d e x -ε by_powers f g h i j x
 unfolding by_powers
-minus_powers a b c d e f g h i j x =
-    five_differences a b c d e f g h i j number_one (x *ε number_one) (x *ε (x *ε number_one)) (x *ε (x *ε (x *ε number_one)))
-    (x *ε (x *ε (x *ε (x *ε number_one))))
+minus_powers a b c d e f g h i j x = simp number_laws
 
 over_powers : (a b c d e y x : Value) → by_powers (a /ε y) (b /ε y) (c /ε y) (d /ε y) (e /ε y) x ≡ by_powers a b c d e x /ε y
 unfolding by_powers
-over_powers a b c d e y x =
-    five_quotients a b c d e y number_one (x *ε number_one) (x *ε (x *ε number_one)) (x *ε (x *ε (x *ε number_one)))
-    (x *ε (x *ε (x *ε (x *ε number_one))))
+over_powers a b c d e y x = simp number_laws
 
 constant_powers : (a x : Value) → by_powers a number_zero number_zero number_zero number_zero x ≡ a
 unfolding by_powers
-constant_powers a x = five_first a (x *ε number_one) (x *ε (x *ε number_one)) (x *ε (x *ε (x *ε number_one))) (x *ε (x *ε (x *ε (x *ε number_one))))
+constant_powers a x = simp number_laws
 
 joined_meant : (sign : Sign) (x y z : List Terms) (v w : Value) → IsMeant x v → IsMeant y w → joined sign x y ≡ Ok z → IsMeant z (moved sign v w)
 unfolding joined
@@ -272,16 +243,13 @@ pair_none x y i j p q d s h k = elim (cases_lt (degree x) i) [
 
 -- ---- products
 
-same_terms : (x y : Terms) → Path (Result Terms ValueFault) (Ok x) (Ok y) → x ≡ y
-same_terms x y h = cc
-
 zero_is : IsNumber zero_terms number_zero
 zero_is = record { reduced = zero_reduced; is = fraction-zero (pos 1) (λ e. omega (arith, ints)) }
 
 pub products_at : (x y : List Terms) (k n : ℕ) (t : Terms) → ((j : ℕ) → IsReduced (terms_at x j)) → ((j : ℕ) → IsReduced (terms_at y j))
     → product_sum x y k n ≡ Ok t → IsNumber t (products (value_at x) (value_at y) k n)
 unfolding product_sum products
-products_at x y k zero t p q h = subst (λ u. IsNumber u number_zero) (same_terms zero_terms t h) zero_is
+products_at x y k zero t p q h = subst (λ u. IsNumber u number_zero) (same_value zero_terms t h) zero_is
 products_at x y k (suc n) t p q h =
     let s = bind_ok (product_sum x y k n) _ t h in
     let u = bind_ok (product (terms_at x n) (terms_at y (k - n))) _ t s.1.1 in
@@ -291,7 +259,7 @@ products_at x y k (suc n) t p q h =
     record { reduced = both.reduced; is = both.is ∙ ap₂ (λ a b. a +ε b) before.is next.is }
 
 all_are_low : (f g : ℕ → Value) (x : Value) → all_products f g x ≡ low_products (f 0) (f 1) (f 2) (f 3) (f 4) (g 0) (g 1) (g 2) (g 3) (g 4) x
-unfolding all_products products low_products by_powers five
+unfolding all_products products low_products by_powers
 all_are_low f g x = refl
 
 add_none : (x : Value) → x +ε number_zero ≡ x
@@ -370,7 +338,7 @@ plain_meant t v h =
 decimal_by : (b : Bool) (l : Terms) (x : List Terms) → decimal_entry (cond b None (Some l)) ≡ Ok x
     → (t : Terms) × ((short_of l ≡ Ok t) × (plain_entry t ≡ x))
 decimal_by true l x h = absurd cc
-decimal_by false l x h = let b = bind_ok (short_of l) (λ t. Ok (plain_entry t)) x h in (b.0, (b.1.0, same_ok (plain_entry b.0) x b.1.1))
+decimal_by false l x h = let b = bind_ok (short_of l) (λ t. Ok (plain_entry t)) x h in (b.0, (b.1.0, same_value (plain_entry b.0) x b.1.1))
 
 decimal_meant : (d : Decimal) (x : List Terms) → decimal_entry (decimal_value d) ≡ Ok x
     → IsMeant x (fraction (value_of None d.body).num (value_of None d.body).den)
@@ -403,7 +371,7 @@ power_4 : (p q r s t : Value) → number_zero +ε number_zero *ε p +ε number_z
 power_4 p q r s t = simp number_laws
 
 unit_meant : (p : ℕ) → p ≤ 4 → IsMeant (tabled (unit_at p)) (power_of_epsilon p)
-unfolding power_of_epsilon by_powers five
+unfolding power_of_epsilon by_powers
 unit_meant zero h =
     as_meant _ _ number_one (epsilon_0 epsilon)
     (of_five _ _ _ _ _ number_one number_zero number_zero number_zero number_zero one_is zero_is zero_is zero_is zero_is)
@@ -421,7 +389,7 @@ power_meaning : (p : ℕ) (x : List Terms) → power_value p ≡ Ok x → IsMean
 unfolding power_value coefficients
 power_meaning p x h =
     let l = low_degree (nat_lt 4 p) p (Ok (tabled (unit_at p))) x refl h in
-    subst (λ t. IsMeant t (power_of_epsilon p)) (same_ok (tabled (unit_at p)) x l.1) (unit_meant p l.0)
+    subst (λ t. IsMeant t (power_of_epsilon p)) (same_value (tabled (unit_at p)) x l.1) (unit_meant p l.0)
 
 epsilon_meaning : (power : Option Power) (x : List Terms) → epsilon_value power ≡ Ok x → IsMeant x (power_meant power)
 epsilon_meaning None x h = power_meaning 1 x h
@@ -440,7 +408,7 @@ mutual
       (joined_meant (sign_or_plus sign) zero_coefficients t.0 s.0 number_zero (term_meaning first) zero_entry (term_meant first t.0 t.1.0) s.1.0) s.1.1
 
   terms_meant : (ts : MoreTerms) (s : List Terms) (v : Value) (x : List Terms) → IsMeant s v → with_terms s ts ≡ Ok x → IsMeant x (and_terms v ts)
-  terms_meant NoTerm s v x m h = subst (λ l. IsMeant l v) (same_ok s x h) m
+  terms_meant NoTerm s v x m h = subst (λ l. IsMeant l v) (same_value s x h) m
   terms_meant (AndTerm sign term others) s v x m h =
       let t = bind_ok (term_value term) _ x h in
       let l = bind_ok (joined sign s t.0) _ x t.1.1 in
@@ -452,7 +420,7 @@ mutual
 
   factors_meant : (fs : MoreFactors) (p : List Terms) (v : Value) (x : List Terms) → IsMeant p v → with_factors p fs ≡ Ok x
       → IsMeant x (and_factors v fs)
-  factors_meant NoFactor p v x m h = subst (λ l. IsMeant l v) (same_ok p x h) m
+  factors_meant NoFactor p v x m h = subst (λ l. IsMeant l v) (same_value p x h) m
   factors_meant (Times factor others) p v x m h =
       let f = bind_ok (factor_value factor) _ x h in
       let l = bind_ok (times p f.0) _ x f.1.1 in

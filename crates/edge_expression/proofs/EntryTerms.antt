@@ -8,7 +8,6 @@ use Rattle.std.proofs.lemmas.Bool.Decides.{nat_tests, Decides-int_eq}
 use Rattle.std.proofs.lemmas.Fmt.{decimal_is_IsNumeral_wide}
 use Rattle.std.proofs.lemmas.Int.{ints}
 use Rattle.std.proofs.lemmas.List.{append-nil}
-use Rattle.field_core.specs.Divisor.{gcd}
 use Rattle.field_core.specs.Terms.{Terms, IsReduced}
 use Rattle.numerals.specs.Numeral.{Plain, body_text, IsNumeralOf}
 use Rattle.field_core.specs.Texts.{fraction_text}
@@ -28,6 +27,8 @@ use Rattle.edge_expression.specs.EntryTexts.{power_text, factor_text, term_text}
 use Rattle.edge_expression.proofs.DecimalValues.{decimal_factor, epsilon_factor}
 use Rattle.edge_expression.proofs.UnitOperations.{IsShortTerms, one_terms}
 use Rattle.edge_expression.proofs.UnitEntries.{tabled, single, power_is, times_power, over_parts}
+use Rattle.field_core.proofs.Coprime.{gcd_one}
+use Rattle.edge_expression.proofs.Evaluations.{with_no_factor}
 
 -- ---- whole numbers
 
@@ -47,13 +48,9 @@ number_spelling : (n : ℕ) → spelling (number_of n) ≡ decimal n
 unfolding spelling number_of
 number_spelling n = refl
 
-pub one_apart : (n : ℕ) → gcd n 1 ≡ 1
-unfolding gcd
-one_apart n = refl
-
 number_reduced : (n : ℕ) → n ≤ 10 ^ 18 → IsReduced (number_of n)
 unfolding number_of
-number_reduced n h = record { positive = omega (arith, ints); num_size = omega (arith, h); den_size = lit< tt; reduced = one_apart n }
+number_reduced n h = record { positive = omega (arith, ints); num_size = omega (arith, h); den_size = lit< tt; reduced = gcd_one n }
 
 number_short : (n : ℕ) → n ≤ 10 ^ 18 → is_short (number_of n) ≡ true
 unfolding number_of
@@ -104,10 +101,6 @@ times_next : (v : List Terms) (f : Factor) (fs : MoreFactors)
     → with_factors v (Times f fs) ≡ (factor_value f >>= λ x. times v x >>= λ l. with_factors l fs)
 unfolding with_factors
 times_next v f fs = refl
-
-no_next : (v : List Terms) → with_factors v NoFactor ≡ Ok v
-unfolding with_factors
-no_next v = refl
 
 over_is : (m d : ℕ) → IsShortTerms (over_of m d) → over (plain_entry (number_of m)) (plain_entry (number_of d)) ≡ Ok (plain_entry (over_of m d))
 unfolding number_of
@@ -227,7 +220,7 @@ constant_term m d h k s =
     record {
       term = Product f.first (f.before NoFactor);
       spelt = λ more x t. f.spelt NoFactor more x t;
-      answer = term_is f.first (f.before NoFactor) ∙ f.answer NoFactor ∙ no_next (plain_entry (over_of m d));
+      answer = term_is f.first (f.before NoFactor) ∙ f.answer NoFactor ∙ with_no_factor (plain_entry (over_of m d));
     }
 
 factor_by : (m d : ℕ) (b : Bool) → is_one (over_of m d) ≡ b → factor_text (over_of m d) ≡ cond b [] (spelling (over_of m d) ++ codes "*")
@@ -252,13 +245,13 @@ unit_term p m d some h one =
       spelt = λ more x t. subst (λ y. IsSpelt (factor_tokens (Other w.further) more) (y ++ x)) (sym text) (w.spelt more x t);
       answer =
           term_is (Other w.further) NoFactor
-          ∙ rw (w.answer, no_next (tabled (single p one_terms))) (ap (λ t. Ok (tabled (single p t))) (sym (both_ones m d one)));
+          ∙ rw (w.answer, with_no_factor (tabled (single p one_terms))) (ap (λ t. Ok (tabled (single p t))) (sym (both_ones m d one)));
     }
 
 times_answer : (p : ℕ) (c : Terms) (further : Further) → p ≤ 4 → IsShortTerms c
     → factor_value (Other further) ≡ Ok (tabled (single p one_terms))
     → with_factors (plain_entry c) (Times (Other further) NoFactor) ≡ Ok (tabled (single p c))
-times_answer p c further h s e = times_next (plain_entry c) (Other further) NoFactor ∙ rw (e, times_power c p h s) (no_next (tabled (single p c)))
+times_answer p c further h s e = times_next (plain_entry c) (Other further) NoFactor ∙ rw (e, times_power c p h s) (with_no_factor (tabled (single p c)))
 
 star_spelt : (p : ℕ) (f : IsPower p) (more : List Token) (x : List ℕ) → IsSpelt more x
     → IsSpelt (TimesToken ∷ factor_tokens (Other f.further) more) (42 ∷ (power_text p ++ x))

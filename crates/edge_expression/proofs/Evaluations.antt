@@ -116,7 +116,7 @@ first_fails taken entry mid rest new f r is h gives (Sum sign first others) more
     err_gives f new more _ r is (sum_stop (term_value first) (sign_or_plus sign) zero_coefficients others f g.0)
 
 -- a further term
-with_next : (sum : List Terms) (sign : Sign) (term : Term) (others : MoreTerms)
+pub with_next : (sum : List Terms) (sign : Sign) (term : Term) (others : MoreTerms)
     → with_terms sum (AndTerm sign term others) ≡ (term_value term >>= λ x. joined sign sum x >>= λ longer. with_terms longer others)
 unfolding with_terms
 with_next sum sign term others = refl
@@ -158,7 +158,7 @@ next_fails op entry old mid rest new sum f r is goes h gives e more ends t =
     err_gives f new more (value e) r is
     (l.value_is ∙ ap (with_terms sum) n.are ∙ with_next sum n.sign n.term n.others ∙ sum_stop (term_value n.term) n.sign sum n.others f g.0)
 
-with_none : (sum : List Terms) → with_terms sum NoTerm ≡ Ok sum
+pub with_none : (sum : List Terms) → with_terms sum NoTerm ≡ Ok sum
 unfolding with_terms
 with_none sum = refl
 
@@ -259,7 +259,7 @@ factor_fails op head entry old mid front rest new q f r is goes j h gives t more
     let g = gives n.factor (factors_tokens n.others more) e (head_is head n.factor (factors_tokens n.others more) mid front e h n.spelt) in
     err_gives f new more (term_value t) r is (l.value_is ∙ n.answer q ∙ factor_stop (factor_value n.factor) op q n.others f g.0)
 
-with_no_factor : (p : List Terms) → with_factors p NoFactor ≡ Ok p
+pub with_no_factor : (p : List Terms) → with_factors p NoFactor ≡ Ok p
 unfolding with_factors
 with_no_factor p = refl
 

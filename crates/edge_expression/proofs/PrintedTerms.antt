@@ -1,7 +1,7 @@
 -- The text of an entry, term by term.
-use Rattle.std.proofs.Common.{◌≡◌, ℕ, zero, suc, ◌+◌, ◌-◌, ◌<◌, Bool, true, false, cond, List, [], ◌++◌, refl, sym, ap, ◌∙◌}
+use Rattle.std.proofs.Common.{◌≡◌, ℕ, zero, suc, ◌+◌, ◌-◌, ◌<◌, Bool, true, false, cond, List, [], ◌++◌, refl, sym, ap, ◌∙◌, add-one}
 use Rattle.std.proofs.Common.{arith, append_assoc, inl, inr}
-use Rattle.std.specs.Prelude.{codes, ◌&&◌, Result, Ok, Err, OnOk, OnErr}
+use Rattle.std.specs.Prelude.{codes, ◌&&◌}
 use Rattle.std.proofs.lemmas.List.{append-nil}
 use Rattle.std.proofs.lemmas.Bool.{cases_lt}
 use Rattle.field_core.specs.Terms.{Terms}
@@ -23,9 +23,6 @@ pub nothing_printed : (old : List ℕ) (e : List Terms) → IsPrinted old old tr
 unfolding are_zero_below
 nothing_printed old e = record { done = []; out_is = sym (append-nil old); text_is = refl; first = refl; none = λ h. refl }
 
-next : (n : ℕ) → n + 1 ≡ suc n
-next n = omega arith
-
 left : (p : ℕ) → p < 5 → 5 - p ≡ suc (5 - (p + 1))
 left p h = omega arith
 
@@ -33,7 +30,7 @@ text_by : (f : Bool) (p : ℕ) (e : List Terms) → p < 5
     → terms_text f p (5 - p) e ≡ cond (is_zero (terms_at e p)) (terms_text f (p + 1) (5 - (p + 1)) e)
     (joined_term f p (terms_at e p) ++ terms_text false (p + 1) (5 - (p + 1)) e)
 unfolding terms_text
-text_by f p e h = ap (λ n. terms_text f p n e) (left p h) ∙ rw (next p) refl
+text_by f p e h = ap (λ n. terms_text f p n e) (left p h) ∙ rw (add-one p) refl
 
 text_zero : (f : Bool) (p : ℕ) (e : List Terms) → p < 5 → is_zero (terms_at e p) ≡ true
     → terms_text f p (5 - p) e ≡ terms_text f (p + 1) (5 - (p + 1)) e
@@ -47,7 +44,7 @@ text_some f p e h z =
 
 zero_more : (e : List Terms) (p : ℕ) (b : Bool) → is_zero (terms_at e p) ≡ b → are_zero_below (p + 1) e ≡ (are_zero_below p e && b)
 unfolding are_zero_below
-zero_more e p b z = ap (λ n. are_zero_below n e) (next p) ∙ ap (λ c. are_zero_below p e && c) z
+zero_more e p b z = ap (λ n. are_zero_below n e) (add-one p) ∙ ap (λ c. are_zero_below p e && c) z
 
 and_true : (b : Bool) → b && true ≡ b
 and_true true = refl
@@ -136,13 +133,3 @@ end_some old out e i =
     let whole : terms_text true 0 5 e ≡ i.done = sym i.text_is ∙ ap (λ (x : List ℕ). i.done ++ x) (none_left false e) ∙ append-nil i.done in
     let text : coefficients_text e ≡ i.done = ap (λ b. cond b (codes "0") (terms_text true 0 5 e)) (sym i.first) ∙ whole in
     i.out_is ∙ ap (λ (x : List ℕ). old ++ x) (sym text)
-
--- ---- results
-
-pub on_err : {A E : Type 0} (r : Result A E) (P : Type 0) → P → OnErr r P
-on_err (Ok x) P p = tt
-on_err (Err f) P p = p
-
-pub on_ok : {A E : Type 0} (r : Result A E) (P Q : Type 0) → OnOk r P → (P → Q) → OnOk r Q
-on_ok (Ok x) P Q p f = f p
-on_ok (Err x) P Q p f = tt

@@ -1,5 +1,5 @@
 -- The bytes with which spelt tokens begin.
-use Rattle.std.proofs.Common.{◌≡◌, ◌≢◌, ℕ, suc, ◌+◌, ◌≤◌, ◌⊎◌, true, false, inl, inr, List, [], ◌∷◌, ◌++◌, length, drop}
+use Rattle.std.proofs.Common.{◌≡◌, ◌≢◌, ℕ, ◌+◌, ◌≤◌, ◌⊎◌, true, false, inl, inr, List, [], ◌∷◌, ◌++◌, length}
 use Rattle.std.proofs.Common.{None, refl, sym, ap, subst, ◌∙◌, arith, length-drop}
 use Rattle.std.specs.List.{prefix_len}
 use Rattle.std.specs.Prelude.{◌==◌, ◌||◌, if◌then◌else◌}
@@ -27,11 +27,9 @@ use Rattle.edge_expression.specs.CursorView.{EndsExpression, EndsTerm, EndsFacto
 use Rattle.field_core.proofs.Heads.{heads}
 use Rattle.edge_expression.proofs.ByteClasses.{class_blank}
 use Rattle.edge_expression.proofs.Machine.{ends_before}
+use Rattle.text_lines.proofs.Cut.{drop_past}
 
 -- ---- blanks
-
-drop_past : (n b : ℕ) (t : List ℕ) → drop (1 + n) (b ∷ t) ≡ drop n t
-drop_past n b t = let e : 1 + n ≡ suc n = omega arith in ap (λ k. drop k (b ∷ t)) e
 
 pub after_blank : (b : ℕ) (t : List ℕ) → is_blank b ≡ true → after_blanks (b ∷ t) ≡ after_blanks t
 unfolding after_blanks

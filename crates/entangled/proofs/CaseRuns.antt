@@ -6,6 +6,7 @@ use Rattle.field_core.specs.Steps.{◌>>=◌}
 use Rattle.removal.specs.InTurn.{removed_in_turn}
 use Rattle.entangled.specs.CaseRun.{CaseState, case_opening, case_removal}
 use Rattle.entangled.specs.CaseAfter.{case_after}
+use Rattle.field_core.specs.Laws.Prefixes.{ok_same}
 
 pub last_step : (r : Result CaseState WideAt) → (r >>= λ x. Ok x) ≡ r
 last_step (Ok x) = refl
@@ -17,14 +18,10 @@ pub goes_on : (r : Result CaseState WideAt) (f g : CaseState → Result CaseStat
 goes_on (Ok u) f g t end step e = step u e
 goes_on (Err w) f g t end step e = absurd (cc)
 
--- a run reaches one state at most
-pub same_state : (r : Result CaseState WideAt) (s t : CaseState) → r ≡ Ok s → r ≡ Ok t → s ≡ t
-same_state r s t h k = cc
-
 turns_more : (js ks : List ℕ) (s t : CaseState) → removed_in_turn case_removal s js ≡ Ok t
     → removed_in_turn case_removal s (js ++ ks) ≡ removed_in_turn case_removal t ks
 unfolding removed_in_turn
-turns_more [] ks s t h = ap (λ x. removed_in_turn case_removal x ks) (same_state (Ok s) s t refl h)
+turns_more [] ks s t h = ap (λ x. removed_in_turn case_removal x ks) (ok_same (Ok s) s t refl h)
 turns_more (i ∷ js) ks s t h = goes_on (case_removal s i) (λ u. removed_in_turn case_removal u js) (λ u. removed_in_turn case_removal u (js ++ ks)) t
     (removed_in_turn case_removal t ks) (λ u e. turns_more js ks u t e) h
 

@@ -1,11 +1,10 @@
 -- Lists by their coefficients.
 use Rattle.std.proofs.Common.{◌≡◌, ◌≢◌, ℕ, zero, suc, ◌+◌, ◌<◌, ◌≤◌, List, [], ◌∷◌, length, drop, set, replicate, map, refl}
-use Rattle.std.proofs.Common.{sym, ◌∙◌, ap, arith, Bool, true, false, ℤ, pos, negsuc, inl, inr}
+use Rattle.std.proofs.Common.{sym, ◌∙◌, ap, arith, Bool, true, false, ℤ, pos, inl, inr}
 use Rattle.std.specs.List.{range_with_len}
 use Rattle.std.proofs.lemmas.Bool.{cases_eq, cases_lt}
 use Rattle.std.proofs.lemmas.List.{same_lists, get_or-set_same, get_or-set_other, length-set, length-replicate, get_or-replicate}
 use Rattle.std.proofs.lemmas.List.FromFn.{length-map-range_with_len, get_or-map-range_with_len}
-use Rattle.field_core.specs.Kind.{is_zero_integer}
 use Rattle.field_core.specs.Polynomial.{coefficient, poly_negate}
 use Rattle.field_core.specs.Laws.PolynomialLaws.{coefficient-index}
 use Rattle.std.proofs.lemmas.Slice.Eq.{slice_eq-Decides}
@@ -67,16 +66,6 @@ coefficient-zero k = elim (cases_lt k 33) [
 ]
 
 -- ---- tests for 0
-
-pub is_zero_true : (c : ℤ) → is_zero_integer c ≡ true → c ≡ pos 0
-is_zero_true (pos zero) e = refl
-is_zero_true (pos (suc n)) e = cc
-is_zero_true (negsuc n) e = cc
-
-pub is_zero_false : (c : ℤ) → is_zero_integer c ≡ false → c ≢ pos 0
-is_zero_false (pos zero) e same = cc
-is_zero_false (pos (suc n)) e same = cc
-is_zero_false (negsuc n) e same = cc
 
 -- ---- the test for equality
 

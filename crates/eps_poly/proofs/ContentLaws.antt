@@ -12,8 +12,8 @@ use Rattle.field_core.proofs.Divisors.{gcd_is}
 use Rattle.field_core.specs.Laws.PolynomialLaws.{lowest-none, coefficient-index}
 use Rattle.eps_poly.specs.Factors.{content, order}
 use Rattle.eps_poly.proofs.Coefficients.{coefficient-past, coefficient-drop}
-use Rattle.eps_poly.proofs.IntegerQuotients.{size_some}
 use Rattle.eps_poly.proofs.OrderLaws.{coefficient-order}
+use Rattle.field_core.proofs.Wholes.{size_some}
 
 -- it divides each coefficient
 pub content_divides : (p : List ℤ) (k : ℕ) → content p ∣ unsigned_abs (coefficient p k)

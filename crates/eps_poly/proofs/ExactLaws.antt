@@ -1,5 +1,5 @@
 -- The exact quotient is the polynomial whose written product with the divisor is the dividend, and there is at most one.
-use Rattle.std.proofs.Common.{◌≡◌, ◌≢◌, ℕ, zero, suc, ◌+◌, ◌-◌, ◌*◌, ◌^◌, ◌<◌, ◌≤◌, ◌⊎◌, inl, inr, List, []}
+use Rattle.std.proofs.Common.{◌≡◌, ◌≢◌, ℕ, zero, suc, ◌+◌, ◌-◌, ◌*◌, ◌^◌, ◌<◌, ◌≤◌, inl, inr, List, []}
 use Rattle.std.proofs.Common.{◌∷◌, ◌++◌, length, length-append, refl, sym, ◌∙◌, ap, ap₂, arith, ℤ, pos, ◌+ℤ◌, ◌*ℤ◌, neg_ℤ}
 use Rattle.std.proofs.Common.{unsigned_abs, int_div, Bool, true, false, if◌then◌else◌, Option, Some, None}
 use Rattle.std.proofs.lemmas.Int.{ints, unsigned_abs-mul}
@@ -13,14 +13,13 @@ use Rattle.eps_poly.specs.Polynomials.{IsPolynomial, is_same, zero_polynomial}
 use Rattle.eps_poly.specs.Written.{sized_product}
 use Rattle.eps_poly.proofs.Coefficients.{coefficient-past, coefficient-zero, length-zero, same_polynomials, same_from, same_to}
 use Rattle.eps_poly.proofs.DegreeLaws.{coefficient-above_degree, degree_at_least, degree_at_most}
-use Rattle.eps_poly.proofs.IntegerQuotients.{int_div_exact, size_some}
+use Rattle.eps_poly.proofs.IntegerQuotients.{int_div_exact}
 use Rattle.eps_poly.proofs.OrderLaws.{coefficient-below_order, none_but_zero}
 use Rattle.eps_poly.proofs.ProductLaws.{product_by_zero, product_is_exact, product_written, product-same}
 use Rattle.eps_poly.proofs.QuotientLaws.{part_more, part-next, product_zero, zero_product, next_step, divisor_some, quotient_known}
-use Rattle.eps_poly.proofs.SumLaws.{sized_inside}
-
-last : (l n : ℕ) → l < suc n → (l ≡ n) ⊎ (l < n)
-last l n h = grind arith
+use Rattle.field_core.proofs.Positions.{at_or_below}
+use Rattle.field_core.proofs.Sized.{sized_says}
+use Rattle.field_core.proofs.Wholes.{size_some}
 
 -- ---- coefficients of a longer list
 
@@ -89,7 +88,7 @@ module _ (p by : List ℤ) where
 
     front_is : (n k : ℕ) → k < n → coefficient (quotient_front p by n) k ≡ coefficient q k
     front_is zero k h = absurd (omega arith)
-    front_is (suc n) k h = elim (last k n h) [
+    front_is (suc n) k h = elim (at_or_below k n h) [
       | inl e ↦ rw e (front_last n
           ∙ one_step (coefficient p (n + order by)) _ (coefficient q n) (coefficient by (order by)) (divisor_some by (order by) refl some)
           (whole n ∙ ap (λ x. x +ℤ coefficient q n *ℤ coefficient by (order by))
@@ -176,7 +175,7 @@ factor_polynomial p by q some long h = record { count = long; sizes = small }
     small k = elim (cases_lt (k + order by) 33) [
       | inl l ↦
           let s = next_step p by q q k (order by) h refl (omega arith) (λ i u. refl) in
-          let inside = sized_inside _ _ s.rest in
+          let inside = sized_says _ _ s.rest in
           factor_small (coefficient q k) (coefficient by (order by)) (divisor_some by (order by) refl some) (inside.1)
       | inr l ↦
           let w = product_written q by p h in

@@ -10,7 +10,7 @@ use Rattle.std.proofs.Math.Nat.{dvd_of_mul-dvd-mul_right, eq-one_of_dvd-one}
 use lib.IntN.{*ℤ-zero}
 use Rattle.std.proofs.Math.IntN.{*ℤ_comm}
 use Rattle.field_core.specs.Polynomial.{coefficient, Same, poly_negate, lowest, IsNonZero}
-use Rattle.field_core.proofs.Wholes.{quotient_times, size_negated}
+use Rattle.field_core.proofs.Wholes.{quotient_times, size_negated, size_some, size_none}
 use Rattle.field_core.specs.Laws.Integers.{integers}
 use Rattle.field_core.specs.Laws.Ring.{negate_multiply, negate_negate}
 use Rattle.field_core.specs.Laws.PolynomialLaws.{coefficient-scale, coefficient-negate, product_nonzero}
@@ -18,7 +18,7 @@ use Rattle.eps_poly.specs.Polynomials.{by_powers}
 use Rattle.eps_poly.specs.Factors.{content, order, factor, signed_as, turned_as, lowered, from_factors, IsCore, core}
 use Rattle.eps_poly.proofs.Coefficients.{coefficient-past, length-by_powers, coefficient-by_powers, length-negate}
 use Rattle.eps_poly.proofs.ContentLaws.{content_divides, content_greatest, content_some}
-use Rattle.eps_poly.proofs.IntegerQuotients.{int_div-zero, int_div_exact, size_some, size_none}
+use Rattle.eps_poly.proofs.IntegerQuotients.{int_div-zero, int_div_exact}
 use Rattle.eps_poly.specs.Written.{degree}
 use Rattle.eps_poly.proofs.DegreeLaws.{coefficient-above_degree, coefficient-degree, degree_at_least, degree_at_most}
 use Rattle.eps_poly.proofs.OrderLaws.{coefficient-below_order, coefficient-order, lowest_from_coefficient, order_is}

@@ -6,16 +6,7 @@ use Rattle.std.proofs.lemmas.Int.{ints, quot-rem, rem_below, unsigned_abs-mul}
 use Rattle.std.proofs.Math.Nat.{mul-le-mul_right}
 use lib.IntN.{+ℤ_idr}
 use Rattle.field_core.proofs.IntegerRing.{int_distribute_right}
-
-pub size_some : (d : ℤ) → d ≢ pos 0 → 0 < unsigned_abs d
-size_some (pos zero) h = absurd (h refl)
-size_some (pos (suc n)) h = omega arith
-size_some (negsuc n) h = omega arith
-
-pub size_none : (d : ℤ) → unsigned_abs d ≡ 0 → d ≡ pos 0
-size_none (pos zero) h = refl
-size_none (pos (suc n)) h = absurd (omega arith)
-size_none (negsuc n) h = absurd (omega arith)
+use Rattle.field_core.proofs.Wholes.{size_some, size_none}
 
 -- a multiple that is smaller in size is 0
 small_multiple : (y d : ℤ) → unsigned_abs (y *ℤ d) < unsigned_abs d → y ≡ pos 0

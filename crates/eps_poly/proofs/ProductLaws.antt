@@ -6,7 +6,7 @@ use Rattle.std.proofs.lemmas.Bool.{cases_lt}
 use Rattle.std.proofs.lemmas.Bool.Decides.{nat_tests}
 use Rattle.std.proofs.lemmas.Int.{ints}
 use lib.IntN.{+ℤ_idr}
-use Rattle.field_core.proofs.Sized.{sized_small}
+use Rattle.field_core.proofs.Sized.{sized_small, sized_says}
 use Rattle.field_core.specs.Polynomial.{coefficient, Same, poly_multiply}
 use Rattle.field_core.specs.Sized.{◌>>=◌, sized}
 use Rattle.field_core.specs.Laws.PolynomialLaws.{product_part, coefficient-multiply_part}
@@ -14,8 +14,9 @@ use Rattle.eps_poly.specs.Polynomials.{IsPolynomial, zero_polynomial}
 use Rattle.eps_poly.specs.Written.{sized_list, written_coefficient, degree, sized_product}
 use Rattle.eps_poly.proofs.Coefficients.{coefficient-past, coefficient-zero, length-zero}
 use Rattle.eps_poly.proofs.DegreeLaws.{coefficient-above_degree, degree-same}
-use Rattle.eps_poly.proofs.SizedLists.{AreValues, list_values, list_from_all, bind_some, ok_inside}
-use Rattle.eps_poly.proofs.SumLaws.{sized_inside, values_polynomial}
+use Rattle.eps_poly.proofs.SizedLists.{AreValues, list_values, list_from_all}
+use Rattle.eps_poly.proofs.SumLaws.{values_polynomial}
+use Rattle.field_core.proofs.Results.{one_some, bind_some}
 
 -- ---- written coefficients
 
@@ -32,7 +33,7 @@ coefficient_step p q k n c e =
     let z = coefficient p n *ℤ coefficient q (k - n) in
     let first = bind_some (written_coefficient p q k n) (λ sum. sized z >>= (λ product. sized (sum +ℤ product))) c e in
     let second = bind_some (sized z) (λ product. sized (first.0 +ℤ product)) c first.2 in
-    let same = (sized_inside z second.0 second.1).0 in
+    let same = (sized_says z second.0 second.1).0 in
     record {
       before = first.0;
       part = first.1;
@@ -69,16 +70,16 @@ coefficient_refused p q k n m h l = ap (written_coefficient p q k) (omega arith)
 -- it is the sum of the products
 pub coefficient_is : (p q : List ℤ) (k n : ℕ) (c : ℤ) → written_coefficient p q k n ≡ Some c → c ≡ product_part p q k n
 unfolding product_part
-coefficient_is p q k zero c e = ok_inside (written_coefficient p q k 0) c (pos 0) e (coefficient_none p q k)
+coefficient_is p q k zero c e = one_some (written_coefficient p q k 0) c (pos 0) e (coefficient_none p q k)
 coefficient_is p q k (suc n) c e =
     let s = coefficient_step p q k n c e in
-    (sized_inside _ c s.sum).0 ∙ ap (λ x. x +ℤ coefficient p n *ℤ coefficient q (k - n)) (coefficient_is p q k n s.before s.part)
+    (sized_says _ c s.sum).0 ∙ ap (λ x. x +ℤ coefficient p n *ℤ coefficient q (k - n)) (coefficient_is p q k n s.before s.part)
 
 pub coefficient_small : (p q : List ℤ) (k n : ℕ) (c : ℤ) → written_coefficient p q k n ≡ Some c → unsigned_abs c < 2 ^ 127
 coefficient_small p q k zero c e =
-    let none : c ≡ pos 0 = ok_inside (written_coefficient p q k 0) c (pos 0) e (coefficient_none p q k) in
+    let none : c ≡ pos 0 = one_some (written_coefficient p q k 0) c (pos 0) e (coefficient_none p q k) in
     rw none (omega (arith, ints))
-coefficient_small p q k (suc n) c e = let s = coefficient_step p q k n c e in (sized_inside _ c s.sum).1
+coefficient_small p q k (suc n) c e = let s = coefficient_step p q k n c e in (sized_says _ c s.sum).1
 
 -- a product by 0 adds nothing
 pub coefficient_zero : (p q : List ℤ) (k n : ℕ) → coefficient p n *ℤ coefficient q (k - n) ≡ pos 0

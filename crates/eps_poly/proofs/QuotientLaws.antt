@@ -9,10 +9,10 @@ use Rattle.field_core.specs.Sized.{sized}
 use Rattle.field_core.specs.Laws.PolynomialLaws.{product_part, product_nonzero}
 use Rattle.eps_poly.specs.Factors.{order}
 use Rattle.eps_poly.specs.Written.{degree, written_coefficient, sized_product}
-use Rattle.eps_poly.proofs.SumLaws.{sized_inside}
 use Rattle.eps_poly.proofs.OrderLaws.{coefficient-below_order, coefficient-order, lowest_from_coefficient}
 use Rattle.eps_poly.proofs.DegreeLaws.{coefficient-above_degree, degree_at_least, coefficient-degree}
 use Rattle.eps_poly.proofs.ProductLaws.{part_none, coefficient_step, coefficient_is, coefficient_refused, coefficient-same, product_written}
+use Rattle.field_core.proofs.Sized.{sized_says}
 
 pub some_or_none : {A : Type 0} (r : Option A) (a : A) → r ≡ Some a → r ≡ None → ⊥
 some_or_none r a e f = cc
@@ -68,7 +68,7 @@ next_step p by q known power low e is_low within same =
     let s = coefficient_step q by at power front.0 front.1 in
     let gap : at - power ≡ low = omega arith in
     let product : sized (coefficient q power *ℤ coefficient by low) ≡ Some (coefficient q power *ℤ coefficient by low) = rw gap at s.product in
-    let sum : front.0 ≡ s.before +ℤ coefficient q power *ℤ coefficient by low = rw gap at ((sized_inside _ front.0 s.sum).0) in
+    let sum : front.0 ≡ s.before +ℤ coefficient q power *ℤ coefficient by low = rw gap at ((sized_says _ front.0 s.sum).0) in
     let above : product_part q by at (low + suc power) ≡ product_part q by at (suc power) =
     part_more q by at (suc power) low
     (λ i l u. product_zero (coefficient q i) (coefficient by (at - i)) (coefficient-below_order by (at - i) (omega arith))) in
@@ -122,6 +122,3 @@ quotient_known p by q r n e some enough front rest k = elim (cases_lt k n) [
 -- c is the coefficient of power k of each q whose written product with by is p
 abbrev pub IsNextCoefficient : List ℤ → List ℤ → ℕ → ℤ → Type 0
 IsNextCoefficient p by k c = (q : List ℤ) → sized_product q by ≡ Some p → c ≡ coefficient q k
-
-pub some_inside : {A : Type 0} (a b : A) → Some a ≡ Some b → a ≡ b
-some_inside a b e = cc

@@ -7,6 +7,7 @@ use Rattle.field_core.specs.Polynomial.{coefficient}
 use Rattle.field_core.specs.Sized.{◌>>=◌}
 use Rattle.field_core.specs.Laws.PolynomialLaws.{coefficient-index}
 use Rattle.eps_poly.specs.Written.{sized_list}
+use Rattle.field_core.proofs.Results.{one_some, bind_some}
 
 -- one more value
 list_next : (n : ℕ) (value : ℕ → Option ℤ) (xs : List ℤ) (c : ℤ) → sized_list n value ≡ Some xs → value n ≡ Some c
@@ -60,11 +61,6 @@ list_from_refused value xs n h count front refused =
     let stopped = list_stops n value (take n xs) (list_front n value xs (omega arith) front) refused in
     rw gap at (list_refused (33 - suc n) (suc n) value stopped)
 
--- what a step that isn't refused gave the next one
-pub bind_some : {A B : Type 0} (r : Option A) (f : A → Option B) (y : B) → (r >>= f) ≡ Some y → (x : A) × (r ≡ Some x) × (f x ≡ Some y)
-bind_some (Some x) f y h = (x, refl, h)
-bind_some None f y h = cc
-
 -- n values and a list of them
 pub record AreValues (n : ℕ) (value : ℕ → Option ℤ) (xs : List ℤ) : Type 0 where
   pub count : length xs ≡ n
@@ -86,9 +82,6 @@ values_push n value xs c v e =
       ];
     }
 
-pub ok_inside : {A : Type 0} (r : Option A) (a b : A) → r ≡ Some a → r ≡ Some b → a ≡ b
-ok_inside r a b e f = cc
-
 -- the values of a list that isn't refused
 pub list_values : (n : ℕ) (value : ℕ → Option ℤ) (xs : List ℤ) → sized_list n value ≡ Some xs → AreValues n value xs
 unfolding sized_list
@@ -96,5 +89,5 @@ list_values zero value xs e = let none : [] ≡ xs = cc in subst (AreValues zero
 list_values (suc n) value xs e =
     let front = bind_some (sized_list n value) (λ front. value n >>= (λ last. Some (front ++ last ∷ []))) xs e in
     let last = bind_some (value n) (λ last. Some (front.0 ++ last ∷ [])) xs front.2 in
-    let whole : front.0 ++ last.0 ∷ [] ≡ xs = ok_inside (Some (front.0 ++ last.0 ∷ [])) (front.0 ++ last.0 ∷ []) xs refl last.2 in
+    let whole : front.0 ++ last.0 ∷ [] ≡ xs = one_some (Some (front.0 ++ last.0 ∷ [])) (front.0 ++ last.0 ∷ []) xs refl last.2 in
     subst (AreValues (suc n) value) whole (values_push n value front.0 last.0 (list_values n value front.0 front.1) last.1)

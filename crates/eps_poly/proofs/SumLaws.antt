@@ -7,18 +7,11 @@ use Rattle.field_core.specs.Polynomial.{coefficient, Same, poly_add}
 use Rattle.field_core.specs.Sized.{sized}
 use Rattle.field_core.specs.Laws.PolynomialLaws.{coefficient-add}
 use lib.IntN.{+ℤ_idr}
-use Rattle.field_core.proofs.Sized.{sized_small, sized_large}
+use Rattle.field_core.proofs.Sized.{sized_small, sized_says}
 use Rattle.eps_poly.specs.Polynomials.{IsPolynomial}
 use Rattle.eps_poly.specs.Written.{sized_list, sized_sum}
 use Rattle.eps_poly.proofs.Coefficients.{coefficient-past}
-use Rattle.eps_poly.proofs.SizedLists.{list_values, ok_inside}
-
--- a written part that isn't refused
-pub sized_inside : (z c : ℤ) → sized z ≡ Some c → (c ≡ z) × (unsigned_abs c < 2 ^ 127)
-sized_inside z c e = elim (cases_lt (unsigned_abs z) (2 ^ 127)) [
-  | inl h ↦ let same : z ≡ c = ok_inside (sized z) z c (sized_small z h) e in (sym same, rw (← same) h)
-  | inr h ↦ let wide = sized_large z h in cc
-]
+use Rattle.eps_poly.proofs.SizedLists.{list_values}
 
 -- a coefficient to which 0 is added stays
 pub sum_alone : (p q : List ℤ) (k : ℕ) → IsPolynomial p → coefficient q k ≡ pos 0
@@ -41,7 +34,7 @@ values_polynomial value r small e =
 
 pub sum_polynomial : (p q r : List ℤ) → sized_sum p q ≡ Some r → IsPolynomial r
 unfolding sized_sum
-sum_polynomial p q r e = values_polynomial _ r (λ k c h. (sized_inside (coefficient p k +ℤ coefficient q k) c h).1) e
+sum_polynomial p q r e = values_polynomial _ r (λ k c h. (sized_says (coefficient p k +ℤ coefficient q k) c h).1) e
 
 -- a written sum that isn't refused is the sum
 pub sum_is_exact : (p q r : List ℤ) → length p ≡ 33 → length q ≡ 33 → sized_sum p q ≡ Some r → Same r (poly_add p q)
@@ -50,7 +43,7 @@ sum_is_exact p q r long_p long_q e k =
     let v = list_values 33 _ r e in
     let all = v.count in
     elim (cases_lt k 33) [
-      | inl h ↦ (sized_inside (coefficient p k +ℤ coefficient q k) (coefficient r k) (v.each k h)).0 ∙ sym (coefficient-add p q k)
+      | inl h ↦ (sized_says (coefficient p k +ℤ coefficient q k) (coefficient r k) (v.each k h)).0 ∙ sym (coefficient-add p q k)
       | inr h ↦ coefficient-past r k (omega arith) ∙ sym
           (coefficient-add p q k ∙ ap₂ (λ a b. a +ℤ b) (coefficient-past p k (omega arith)) (coefficient-past q k (omega arith)))
     ]

@@ -7,9 +7,7 @@ use Rattle.std.proofs.lemmas.List.{length-set}
 use Rattle.std.proofs.Math.Nat.{div-le_self}
 use Rattle.field_core.specs.Polynomial.{coefficient, lowest, poly_negate}
 use Rattle.field_core.specs.Laws.PolynomialLaws.{coefficient-negate}
-use Rattle.field_core.proofs.Wholes.{size_negated}
-use Rattle.field_core.specs.Laws.Integers.{int_multiply_one}
-use Rattle.eps_poly.proofs.IntegerQuotients.{int_div_exact}
+use Rattle.field_core.proofs.Wholes.{size_negated, over_one}
 use Rattle.eps_poly.specs.Polynomials.{IsPolynomial, IsShort, by_powers, zero_polynomial}
 use Rattle.eps_poly.specs.Factors.{content, core, lowered, order, turned_as}
 use Rattle.eps_poly.proofs.Coefficients.{same_polynomials, coefficient-past, coefficient-set_same, coefficient-set_other, coefficient-zero, length-zero}
@@ -69,9 +67,6 @@ lowered_valid k by p v =
         | inr h ↦ rw (coefficient-past (by_powers value) i (omega arith)) (lit< tt)
       ];
     }
-
-over_one : (z : ℤ) → int_div z (pos 1) ≡ z
-over_one z = ap (λ x. int_div x (pos 1)) (sym (int_multiply_one z)) ∙ int_div_exact z (pos 1) (λ e. cc)
 
 -- nothing is lowered by 1
 pub lowered_same : (p : List ℤ) → IsPolynomial p → lowered 0 (pos 1) p ≡ p

@@ -1,5 +1,7 @@
 //! Coefficients of products.
-ghost use Rattle.std.specs.Prelude.{◌≡◌, ◌≤◌, ◌+◌, true};
+ghost use Rattle.std.specs.Prelude.{◌≡◌, ◌≤◌, ◌+◌, ◌*ℤ◌, true};
+ghost use Rattle.field_core.specs.Polynomial.{coefficient};
+ghost use Rattle.field_core.specs.Sized.{sized};
 ghost use Rattle.eps_poly.specs.Polynomials.{IsShort};
 ghost use Rattle.eps_poly.specs.Written.{written_coefficient};
 
@@ -7,44 +9,34 @@ use crate::EpsPoly;
 use crate::numbers::is_zero;
 use field_core::Whole;
 
-/// Returns what the coefficients below `count` of the first factor add to a coefficient of the product. A product by 0
-/// adds nothing.
-fn wide_part(p: &EpsPoly, q: &EpsPoly, power: usize, count: usize) -> Option<Whole>
-    requires power { power ≤ 32 }
-    requires count { count ≤ power + 1 }
-    ensures { result ≡ written_coefficient p.now q.now power count }
+/// Returns the product of a coefficient of each factor. If it may be known that all coefficients of both fit 64 bits, it is never
+/// too wide. A product by 0 is not multiplied out.
+fn product_at(
+    p: &EpsPoly,
+    q: &EpsPoly,
+    first: usize,
+    second: usize,
+    are_short: bool,
+) -> Option<Whole>
+    requires first { first ≤ 32 }
+    requires second { second ≤ 32 }
+    requires p { are_short ≡ true → IsShort p.now }
+    requires q { are_short ≡ true → IsShort q.now }
+    ensures { result ≡ sized (coefficient p.now first *ℤ coefficient q.now second) }
 {
-    let mut sum = Whole::new(0);
-    for first in 0..count {
-        let left = p.whole(first);
-        let right = q.whole(power - first);
-        if is_zero(left) || is_zero(right) {
-            continue;
-        }
-        let product = left.checked_mul(right)?;
-        sum = sum.checked_add(product)?;
+    if are_short {
+        return Some(p.short(first).times(q.short(second)));
     }
-    Some(sum)
+    let left = p.whole(first);
+    let right = q.whole(second);
+    if is_zero(left) || is_zero(right) {
+        return Some(Whole::new(0));
+    }
+    left.checked_mul(right)
 }
 
-/// Returns the same of factors whose coefficients fit 64 bits. Their products are never too wide, so it tests the sums alone.
-fn short_part(p: &EpsPoly, q: &EpsPoly, power: usize, count: usize) -> Option<Whole>
-    requires power { power ≤ 32 }
-    requires count { count ≤ power + 1 }
-    requires first { IsShort p.now }
-    requires second { IsShort q.now }
-    ensures { result ≡ written_coefficient p.now q.now power count }
-{
-    let mut sum = Whole::new(0);
-    for first in 0..count {
-        let product = p.short(first).times(q.short(power - first));
-        sum = sum.checked_add(product)?;
-    }
-    Some(sum)
-}
-
-/// Returns what the coefficients below `count` of the first factor add to a coefficient of the product, if it may be known that
-/// all coefficients of both fit 64 bits.
+/// Returns what the coefficients below `count` of the first factor add to a coefficient of the product.
+#[tactic(auto, using(crate::proofs::ProductLaws::coefficient_none))]
 pub fn part_of_product(
     p: &EpsPoly,
     q: &EpsPoly,
@@ -58,9 +50,10 @@ pub fn part_of_product(
     requires second { are_short ≡ true → IsShort q.now }
     ensures { result ≡ written_coefficient p.now q.now power count }
 {
-    if are_short {
-        short_part(p, q, power, count)
-    } else {
-        wide_part(p, q, power, count)
+    let mut sum = Whole::new(0);
+    for first in 0..count {
+        let product = product_at(p, q, first, power - first, are_short)?;
+        sum = sum.checked_add(product)?;
     }
+    Some(sum)
 }

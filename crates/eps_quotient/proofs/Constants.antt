@@ -11,7 +11,7 @@ use Rattle.field_core.specs.declared.place.Op.TheVariants.{Add}
 use Rattle.field_core.specs.Kind.{Parts, is_zero, is_zero_integer}
 use Rattle.field_core.specs.Terms.{Terms, IsReduced}
 use Rattle.field_core.specs.Polynomial.{coefficient, lowest, Same, poly_negate, IsNonZero}
-use Rattle.field_core.specs.Laws.PolynomialLaws.{coefficient-negate, coefficient-multiply_part, product_part, lowest-same, nonzero-multiply}
+use Rattle.field_core.specs.Laws.PolynomialLaws.{coefficient-negate, coefficient-multiply_part, product_part, lowest-same, nonzero-multiply, same_sym}
 use Rattle.field_core.specs.Laws.FractionLaws.{lowest-constant}
 use Rattle.eps_poly.specs.Polynomials.{IsConstant, IsPolynomial, is_same, monomial}
 use Rattle.eps_poly.specs.Factors.{order, lowered, core, factor}
@@ -20,16 +20,16 @@ use Rattle.eps_poly.proofs.FactorLaws.{coefficient-lowered}
 use Rattle.eps_poly.proofs.IntegerQuotients.{int_div-zero}
 use Rattle.eps_poly.proofs.OrderLaws.{order_is}
 use Rattle.eps_poly.proofs.ProductLaws.{product_is_exact, product_polynomial}
-use Rattle.eps_poly.proofs.SizedLists.{bind_some, ok_inside}
 use Rattle.eps_quotient.specs.Lowering.{zero_quotient, common_content, common_order, without_powers, without_cores, lower, turned, norm}
 use Rattle.eps_quotient.specs.Quotients.{sum_over, sum_of, written_sum}
 use Rattle.eps_quotient.specs.Polynomials.{term, sum_from, written_polynomial}
 use Rattle.eps_quotient.specs.Stored.{IsQuotient}
 use Rattle.eps_quotient.specs.Laws.Exact.{quotients_are_exact, some_below, zero_stored}
 use Rattle.eps_quotient.specs.Laws.LowerLaws.{either_branch, lower_is}
-use Rattle.eps_quotient.specs.Laws.QuotientLaws.{same_sym, same_nonzero}
+use Rattle.eps_quotient.specs.Laws.QuotientLaws.{same_nonzero}
 use Rattle.eps_quotient.specs.Laws.Multiples.{monomial-other}
 use Rattle.eps_quotient.proofs.TermLaws.{term_stored}
+use Rattle.field_core.proofs.Results.{one_some, bind_some}
 
 apart : (k : ℕ) → 0 < k → k ≢ 0
 apart k h e = omega arith
@@ -91,13 +91,13 @@ GivesConstant r = (z : Parts) → r ≡ Some z → IsOverConstant z
 
 given : (x : Parts) → IsOverConstant x → GivesConstant (Some x)
 unfolding GivesConstant
-given x h z e = subst IsOverConstant (ok_inside (Some x) x z refl e) h
+given x h z e = subst IsOverConstant (one_some (Some x) x z refl e) h
 
 over_constant : (n m d : List ℤ) → IsPolynomial d → IsNonZero d → IsConstant d → GivesConstant (sum_over n m d)
 unfolding GivesConstant sum_over
 over_constant n m d held some h z e =
     let u = bind_some (sized_sum n m) _ z e in
-    subst IsOverConstant (ok_inside (Some z) _ z (sym u.2) refl) (norm_constant u.0 d held some h)
+    subst IsOverConstant (one_some (Some z) _ z (sym u.2) refl) (norm_constant u.0 d held some h)
 
 sum_constant : (x y : Parts) → IsQuotient x → IsQuotient y → IsOverConstant x → IsOverConstant y
     → GivesConstant (sum_of x y (lower x.denominator y.denominator))

@@ -29,6 +29,7 @@ use Rattle.eps_quotient.specs.Stored.{IsQuotient}
 use Rattle.eps_quotient.specs.Laws.Exact.{some_below}
 use Rattle.eps_quotient.specs.Laws.Multiples.{length-monomial, monomial-at, monomial-other}
 use Rattle.eps_quotient.proofs.Spelled.{lists_text}
+use Rattle.field_core.proofs.Wholes.{positive_is}
 
 -- ---- numbers
 
@@ -114,10 +115,6 @@ constant_some p some e z = some (sym (coefficient-order p) ∙ each (order p))
 positive_text : (z : ℤ) → pos 0 <ℤ z → unsigned_abs z < 2 ^ 127 → IsNumber (signed_decimal z) (unsigned_abs z)
 positive_text (pos n) h small = number_text n small
 positive_text (negsuc n) h small = absurd (omega (arith, ints))
-
-positive_is : (z : ℤ) → pos 0 <ℤ z → z ≡ pos (unsigned_abs z)
-positive_is (pos n) h = refl
-positive_is (negsuc n) h = absurd (omega (arith, ints))
 
 -- ---- the forms
 

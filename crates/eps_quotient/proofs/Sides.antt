@@ -6,15 +6,13 @@ use Rattle.eps_quotient.specs.Grammar.{IsList, IsWholeText, IsFraction, IsLists,
 use Rattle.eps_quotient.specs.Reading.{number_of, whole_of, polynomial_of}
 use Rattle.eps_quotient.proofs.Readings.{number_found, number_only, whole_found, whole_only}
 use Rattle.eps_quotient.proofs.ListReadings.{IsFree, list_found, list_only, list_free, whole_free, slash, one_cut, not_free, list_or_whole}
+use Rattle.field_core.proofs.Results.{same_some}
 
 only_none : {A : Type 0} (P : A → Type 0) → ((x : A) → P x → ⊥) → IsOnly P None
 only_none P h = record { is = tt; only = λ x p. absurd (h x p) }
 
 only_some : {A : Type 0} (P : A → Type 0) (x : A) → P x → ((y : A) → P y → x ≡ y) → IsOnly P (Some x)
 only_some P x p h = record { is = p; only = λ y q. ap Some (h y q) }
-
-pub inside_some : {A : Type 0} (x y : A) → Some x ≡ Some y → x ≡ y
-inside_some x y e = cc
 
 pub none_or_some : {A : Type 0} (x : A) → None ≡ Some x → ⊥
 none_or_some x e = cc
@@ -28,7 +26,7 @@ list_reads text inner found e f = reads found f
     reads : (found : Option (List ℤ)) → found ≡ polynomial_of inner → IsOnly (IsList text) found
     reads None f = only_none (IsList text) (λ p is. none_or_some p (f ∙ list_only text inner p is e))
     reads (Some p) f = only_some (IsList text) p (subst (λ t. IsList t p) (sym e) (list_found inner p (sym f)))
-        (λ q is. inside_some p q (f ∙ list_only text inner q is e))
+        (λ q is. same_some p q (f ∙ list_only text inner q is e))
 
 -- ---- two numbers
 
@@ -52,8 +50,8 @@ fraction_reads over under z m n d e f g h =
     only_some (FractionOf over under) (n, d)
     (record { num = z; den = k.0; is_whole = whole_found over z e; is_number = k.1; above = g; below = h ∙ ap (λ c. monomial c 0) k.2 })
     (λ y is. pair_same n d y.0 y.1
-    (g ∙ ap (λ c. monomial c 0) (inside_some z is.num (sym e ∙ whole_only over is.num is.is_whole)) ∙ sym is.above)
-    (h ∙ ap (λ c. monomial c 0) (inside_some m (pos is.den) (sym f ∙ number_only under is.den is.is_number)) ∙ sym is.below))
+    (g ∙ ap (λ c. monomial c 0) (same_some z is.num (sym e ∙ whole_only over is.num is.is_whole)) ∙ sym is.above)
+    (h ∙ ap (λ c. monomial c 0) (same_some m (pos is.den) (sym f ∙ number_only under is.den is.is_number)) ∙ sym is.below))
 
 -- ---- a whole number
 
@@ -69,7 +67,7 @@ whole_reads text z n d e g h =
     only_some (WholeOf text) (n, d)
     (record { number = z; is_whole = whole_found text z e; above = g; below = h })
     (λ y is. pair_same n d y.0 y.1
-    (g ∙ ap (λ c. monomial c 0) (inside_some z is.number (sym e ∙ whole_only text is.number is.is_whole)) ∙ sym is.above) (h ∙ sym is.below))
+    (g ∙ ap (λ c. monomial c 0) (same_some z is.number (sym e ∙ whole_only text is.number is.is_whole)) ∙ sym is.above) (h ∙ sym is.below))
 
 -- ---- two lists
 
@@ -86,7 +84,7 @@ pub lists_read : (over under : List ℕ) (n d : List ℤ) → IsOnly (IsList ove
     → IsOnly (ListsOf over under) (Some (n, d))
 lists_read over under n d f g =
     only_some (ListsOf over under) (n, d) (record { above = f.is; below = g.is })
-    (λ y is. pair_same n d y.0 y.1 (inside_some n y.0 (f.only y.0 is.above)) (inside_some d y.1 (g.only y.1 is.below)))
+    (λ y is. pair_same n d y.0 y.1 (same_some n y.0 (f.only y.0 is.above)) (same_some d y.1 (g.only y.1 is.below)))
 
 -- ---- both sides of a slash
 
@@ -97,7 +95,7 @@ pub sides_first : (over under : List ℕ) (x : List ℤ × List ℤ) → IsOnly 
 sides_first over under x f =
     only_some (SidesOf over under) x (inl f.is)
     (λ y s. elim s [
-      | inl is ↦ inside_some x y (f.only y is)
+      | inl is ↦ same_some x y (f.only y is)
       | inr is ↦ absurd (list_or_whole over f.is.num y.0 f.is.is_whole is.above)
     ])
 
@@ -106,7 +104,7 @@ pub sides_second : (over under : List ℕ) (r : Option (List ℤ × List ℤ)) �
 sides_second over under None f g =
     only_none (SidesOf over under) (λ y s. elim s [ inl is ↦ none_or_some y (f.only y is) | inr is ↦ none_or_some y (g.only y is) ])
 sides_second over under (Some x) f g =
-    only_some (SidesOf over under) x (inr g.is) (λ y s. elim s [ inl is ↦ absurd (none_or_some y (f.only y is)) | inr is ↦ inside_some x y (g.only y is) ])
+    only_some (SidesOf over under) x (inr g.is) (λ y s. elim s [ inl is ↦ absurd (none_or_some y (f.only y is)) | inr is ↦ same_some x y (g.only y is) ])
 
 -- ---- whole texts
 
@@ -123,7 +121,7 @@ text_whole text None free f =
     only_none (PolynomialsOf text) (λ y s. elim s [ inl is ↦ none_or_some y (f.only y is) | inr is ↦ not_free text is.over is.under free is.spelt ])
 text_whole text (Some x) free f =
     only_some (PolynomialsOf text) x (inl f.is)
-    (λ y s. elim s [ inl is ↦ inside_some x y (f.only y is) | inr is ↦ absurd (not_free text is.over is.under free is.spelt) ])
+    (λ y s. elim s [ inl is ↦ same_some x y (f.only y is) | inr is ↦ absurd (not_free text is.over is.under free is.spelt) ])
 
 -- the sides of the first slash are those of the grammar
 same_sides : (text over under : List ℕ) (y : List ℤ × List ℤ) → text ≡ over ++ 47 ∷ under → IsFree 47 over → IsPairText text y.0 y.1
@@ -146,5 +144,5 @@ text_cut text over under None e free f =
 text_cut text over under (Some x) e free f =
     only_some (PolynomialsOf text) x (inr (record { over = over; under = under; spelt = e; sides = f.is })) (λ y s. elim s [
       | inl is ↦ absurd (whole_or_slash text over under y.0 y.1 e is)
-      | inr is ↦ inside_some x y (f.only y (same_sides text over under y e free is))
+      | inr is ↦ same_some x y (f.only y (same_sides text over under y e free is))
     ])

@@ -6,11 +6,11 @@ use Rattle.field_core.specs.Sized.{gcd_of}
 use Rattle.field_core.specs.Terms.{Terms}
 use Rattle.field_core.specs.LimitParts.{limit_terms}
 use Rattle.eps_quotient.specs.Laws.LimitTerms.{limit_terms-first}
-use Rattle.field_core.specs.Laws.PolynomialLaws.{nonzero-multiply}
+use Rattle.field_core.specs.Laws.PolynomialLaws.{nonzero-multiply, same_sym}
 use Rattle.eps_quotient.specs.declared.pair.Pair.{Pair}
 use Rattle.eps_quotient.specs.Stored.{IsQuotient}
 use Rattle.eps_quotient.specs.View.{pair_parts}
-use Rattle.eps_quotient.specs.Laws.QuotientLaws.{same_sym, same_nonzero}
+use Rattle.eps_quotient.specs.Laws.QuotientLaws.{same_nonzero}
 
 pub stored_same : (x y : Parts) → x ≡ y → IsQuotient y → IsQuotient x
 stored_same x y e s = subst IsQuotient (sym e) s

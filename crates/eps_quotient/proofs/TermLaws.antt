@@ -1,9 +1,8 @@
 -- Sums of terms of ascending power.
 use Rattle.std.proofs.Common.{◌≡◌, ℕ, zero, suc, ◌+◌, ◌<◌, ◌≤◌, List, [], ◌∷◌, length, drop, map, refl, sym, ◌∙◌, ap, ap₂}
-use Rattle.std.proofs.Common.{arith, ℤ, pos, negsuc, ◌*ℤ◌, ◌<ℤ◌, unsigned_abs, Option, Some, None, Result, Ok, Err, lit≤, get_or, ◌*◌}
+use Rattle.std.proofs.Common.{arith, ℤ, pos, ◌*ℤ◌, ◌<ℤ◌, unsigned_abs, Option, Some, None, Result, Ok, Err, lit≤, get_or, ◌*◌}
 use Rattle.std.proofs.Common.{subst, Bool, true, false, if◌then◌else◌, inl, inr, lit<}
 use Rattle.std.proofs.lemmas.Bool.{cases_eq}
-use Rattle.std.proofs.lemmas.Int.{ints}
 use Rattle.field_core.specs.declared.place.Op.TheVariants.{Add}
 use Rattle.field_core.specs.declared.ratio.Ratio.{Ratio}
 use Rattle.field_core.specs.Number.{Number}
@@ -23,7 +22,7 @@ use Rattle.field_core.specs.Exact.{value_of}
 use Rattle.field_core.specs.Fractions.{quotient, fraction}
 use Rattle.field_core.specs.Laws.FractionLaws.{quotient-multiply, constant_nonzero}
 use Rattle.field_core.specs.Laws.Effective.{positive_nonzero}
-use Rattle.field_core.specs.Laws.PolynomialLaws.{coefficient-scale, multiply_comm, multiply-shift_left, nonzero-one, nonzero-multiply, positive_in}
+use Rattle.field_core.specs.Laws.PolynomialLaws.{coefficient-scale, multiply_comm, multiply-shift_left, nonzero-one, nonzero-multiply, positive_in, shift-same}
 use Rattle.field_core.specs.declared.place.TooWide.{TooWide}
 use Rattle.field_core.specs.Kind.{Parts, is_zero, or_wide}
 use Rattle.field_core.specs.Polynomial.{coefficient, Same, poly_scale, poly_multiply, lowest, int_sign, IsNonZero}
@@ -34,7 +33,6 @@ use Rattle.eps_poly.proofs.Coefficients.{same_polynomials, coefficient-zero, len
 use Rattle.eps_poly.proofs.OrderLaws.{all_zero, none_but_zero, order_none}
 use Rattle.eps_quotient.specs.Laws.LowerLaws.{zeros_lowest}
 use Rattle.eps_poly.specs.Factors.{content, from_factors}
-use Rattle.eps_poly.proofs.SizedLists.{bind_some}
 use Rattle.eps_quotient.specs.Lowering.{one_polynomial, zero_quotient}
 use Rattle.eps_quotient.specs.Polynomials.{term, sum_from, written_polynomial, polynomial_value}
 use Rattle.eps_quotient.specs.Quotients.{written_sum}
@@ -42,8 +40,10 @@ use Rattle.eps_quotient.specs.Stored.{IsQuotient}
 use Rattle.eps_quotient.specs.Laws.Exact.{quotients_are_exact, zero_stored}
 use Rattle.eps_quotient.specs.Laws.Cuts.{monomial_some, monomial_held, monomial_core, one_core}
 use Rattle.field_core.specs.Laws.LimitLaws.{lowest-first}
-use Rattle.eps_quotient.specs.Laws.Multiples.{monomial-factors, monomial-at, monomial-other, front-same, one_same, gcd_nothing, content-same, content-factors}
+use Rattle.eps_quotient.specs.Laws.Multiples.{monomial-factors, monomial-at, monomial-other, one_same, gcd_nothing, content-same, content-factors}
 use Rattle.eps_quotient.specs.Laws.QuotientLaws.{quotient-same, multiply-one, same_trans}
+use Rattle.field_core.proofs.Results.{bind_some}
+use Rattle.field_core.proofs.Wholes.{one_of_size}
 
 -- ---- the value of a term
 
@@ -59,7 +59,7 @@ unfolding epsilon
 epsilon_times p q h =
     quotient-multiply (pos 0 ∷ pos 1 ∷ []) (pos 1 ∷ []) p q nonzero-one h
     ∙ quotient-same _ _ (pos 0 ∷ p) q (nonzero-multiply (pos 1 ∷ []) q nonzero-one h)
-    (same_trans _ _ _ (multiply-shift_left (pos 1 ∷ []) p) (front-same _ _ (one_times p))) (one_times q)
+    (same_trans _ _ _ (multiply-shift_left (pos 1 ∷ []) p) (shift-same _ _ (one_times p))) (one_times q)
 
 scaled_one : (c : ℤ) (k : ℕ) → c *ℤ coefficient (pos 1 ∷ []) k ≡ coefficient (c ∷ []) k
 unfolding coefficient
@@ -101,10 +101,6 @@ content-monomial : (c : ℤ) (k : ℕ) → k ≤ 32 → content (monomial c k) �
 content-monomial c k low =
     content-same _ _ (monomial-factors c k low) ∙ content-factors c k one_polynomial ∙ ap (λ n. unsigned_abs c * n) one_core.divisor
     ∙ mul-one (unsigned_abs c)
-
-one_of_size : (d : ℤ) → pos 0 <ℤ d → unsigned_abs d ≡ 1 → d ≡ pos 1
-one_of_size (pos n) h e = ap pos e
-one_of_size (negsuc n) h e = absurd (omega (arith, ints))
 
 -- the denominator of 0
 zero_den : (n d : ℤ) → n ≡ pos 0 → pos 0 <ℤ d → gcd (unsigned_abs n) (unsigned_abs d) ≡ 1 → d ≡ pos 1

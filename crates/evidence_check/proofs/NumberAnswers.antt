@@ -11,7 +11,6 @@ use Rattle.fraction.specs.declared.fault.FractionFault.TheVariants.{ZeroDenomina
 use Rattle.numerals.specs.Lowest.{lowest_terms, HasWidePart}
 use Rattle.fraction.specs.Plain.{single, fraction_parts}
 use Rattle.fraction.specs.View.{terms_of}
-use Rattle.eps_poly.proofs.Coefficients.{is_zero_true, is_zero_false}
 use Rattle.eps_quotient.specs.declared.quotient.EpsQuotient.{EpsQuotient}
 use Rattle.eps_quotient.specs.View.{quotient_parts}
 use Rattle.eps_quotient.specs.Grammar.{IsQuotientText}
@@ -21,6 +20,7 @@ use Rattle.case_numbers.specs.Numbers.{in_quotients}
 use Rattle.evidence_check.specs.NumberTexts.{IsTextOf, IsNumberOf}
 use Rattle.evidence_check.specs.NumberReading.{quotient_in, has_wide_part, fraction_by, constant_fraction, fraction_of_text}
 use Rattle.evidence_check.proofs.NumberFound.{quotient_is, quotient_once, wide_decides}
+use Rattle.field_core.proofs.Wholes.{is_zero_true, is_zero_false}
 
 -- ---- quotients
 

@@ -11,7 +11,6 @@ use Rattle.field_core.specs.Polynomial.{coefficient, lowest}
 use Rattle.field_core.specs.Terms.{Terms}
 use Rattle.numerals.specs.Lowest.{lowest_terms, HasWidePart}
 use Rattle.fraction.specs.Plain.{single}
-use Rattle.eps_poly.proofs.Coefficients.{is_zero_true, is_zero_false}
 use Rattle.eps_poly.specs.Polynomials.{monomial}
 use Rattle.eps_quotient.specs.Lowering.{norm, one_polynomial}
 use Rattle.eps_quotient.specs.Grammar.{IsList, IsFraction, IsLists, AreSides, IsWholeText, IsPolynomials, IsOnly}
@@ -24,6 +23,7 @@ use Rattle.evidence_check.specs.NumberTexts.{IsTextOf, IsConstantOf, IsNumberOf}
 use Rattle.evidence_check.specs.NumberReading.{cut, closed, inside, or_else, list_in, fraction_in, lists_in, whole_in, by_sides, polynomials_in, quotient_in}
 use Rattle.evidence_check.specs.NumberReading.{has_wide_part, fraction_by, constant_fraction, fraction_of_text, number_in_text, case_frame}
 use Rattle.evidence_check.specs.ReadView.{IsFrameFor}
+use Rattle.field_core.proofs.Wholes.{is_zero_true, is_zero_false}
 
 -- ---- a byte
 

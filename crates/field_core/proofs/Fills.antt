@@ -1,5 +1,5 @@
 -- Places that are filled one after the other hold what a run of steps gives.
-use Rattle.std.proofs.Common.{◌≡◌, refl, sym, ap, ◌∙◌, ℕ, zero, suc, ◌<◌, ◌≤◌, ◌⊎◌, inl, inr, List, [], ◌∷◌, Result, Ok}
+use Rattle.std.proofs.Common.{◌≡◌, refl, sym, ap, ◌∙◌, ℕ, zero, suc, ◌<◌, ◌≤◌, inl, inr, List, [], ◌∷◌, Result, Ok}
 use Rattle.std.proofs.Common.{Err, length, get_or, take, map, arith}
 use Rattle.std.proofs.lemmas.List.{map-append, map-id, take_all}
 use Rattle.std.proofs.Math.Seq.{take-suc}
@@ -7,15 +7,13 @@ use Rattle.field_core.specs.Kind.{ok_map}
 use Rattle.field_core.specs.Filled.{AreFilledBelow, AreFilled}
 use Rattle.field_core.specs.Steps.{each_below}
 use Rattle.field_core.specs.Laws.Prefixes.{each_suc}
-
-last : (l n : ℕ) → l < suc n → (l ≡ n) ⊎ (l < n)
-last l n h = grind arith
+use Rattle.field_core.proofs.Positions.{at_or_below}
 
 -- A fault ends the run.
 pub each_fault : {A E : Type 0} (n l : ℕ) (f : ℕ → Result A E) (xs : List A) (e : E) → l < n → each_below l f ≡ Ok xs → f l ≡ Err e
     → each_below n f ≡ Err e
 each_fault zero l f xs e h k g = absurd (omega arith)
-each_fault (suc n) l f xs e h k g = elim (last l n h) [
+each_fault (suc n) l f xs e h k g = elim (at_or_below l n h) [
   | inl p ↦ let k' = rw p at k in let g' = rw p at g in rw (each_suc n f, k', g') refl
   | inr p ↦ rw (each_suc n f, each_fault n l f xs e p k g) refl
 ]

@@ -5,6 +5,7 @@ use Rattle.std.specs.Prelude.{nat_lt}
 use Rattle.std.proofs.lemmas.Bool.Decides.{nat_tests}
 use Rattle.std.proofs.lemmas.Nat.{pow_pos}
 use Rattle.std.proofs.Math.Nat.{two-pow-succ}
+use Rattle.std.proofs.lemmas.List.{append-nil}
 use Rattle.field_core.specs.OrderOfSets.{ComesBefore, IsAscending, IsListStep, IsLastList, lists_after}
 use Rattle.field_core.proofs.Positions.{below_or_above}
 
@@ -157,14 +158,10 @@ two_more : (js : List ℕ) (l k : ℕ) → js ++ l ∷ k ∷ [] ≡ (js ++ l ∷
 two_more [] l k = refl
 two_more (j ∷ js) l k = ap (λ xs. j ∷ xs) (two_more js l k)
 
-no_more : (js : List ℕ) → js ≡ js ++ []
-no_more [] = refl
-no_more (j ∷ js) = ap (λ xs. j ∷ xs) (no_more js)
-
 pub child_step : (m l : ℕ) (js : List ℕ) → IsAscending m 0 (js ++ l ∷ []) → suc l < m
     → IsListStep m (js ++ l ∷ []) ((js ++ l ∷ []) ++ suc l ∷ []) (suc l)
 child_step m l js a h = step_of m (js ++ l ∷ []) _ (suc l) (js ++ l ∷ []) [] a (next_child m 0 l js h ∙ ap Some (two_more js l (suc l)))
-    (no_more (js ++ l ∷ [])) refl
+    (sym (append-nil (js ++ l ∷ []))) refl
 
 pub sibling_step : (m k l : ℕ) (js : List ℕ) → IsAscending m 0 (js ++ k ∷ l ∷ []) → suc k < m → m ≤ suc l
     → IsListStep m (js ++ k ∷ l ∷ []) (js ++ suc k ∷ []) (suc k)

@@ -1,17 +1,20 @@
 -- Written operations with 0, which need no step.
-use Rattle.std.proofs.Common.{◌≡◌, ℕ, suc, ◌/◌, ◌<◌, ◌^◌, ℤ, pos, negsuc, ◌+ℤ◌, ◌*ℤ◌, ◌<ℤ◌, unsigned_abs, int_div}
-use Rattle.std.proofs.Common.{neg_ℤ, Some, refl, sym, ◌∙◌, ap, arith, inl, lit<}
+use Rattle.std.proofs.Common.{◌≡◌, ℕ, ◌/◌, ◌<◌, ◌^◌, ℤ, pos, negsuc, ◌+ℤ◌, ◌*ℤ◌, ◌<ℤ◌, unsigned_abs, int_div}
+use Rattle.std.proofs.Common.{Some, refl, sym, ◌∙◌, ap, arith, lit<}
 use Rattle.std.proofs.lemmas.Int.{ints}
 use Rattle.std.proofs.Math.IntN.{*ℤ_comm}
-use Rattle.std.proofs.Math.Nat.{div-one, zero-div, div_self}
+use Rattle.std.proofs.Math.Nat.{zero-div, div_self}
 use Rattle.field_core.specs.Divisor.{gcd}
 use Rattle.field_core.specs.Terms.{Terms, IsReduced}
 use Rattle.fraction.specs.declared.short.ShortRatio.{ShortRatio}
 use Rattle.fraction.specs.Short.{short_terms}
 use Rattle.field_core.specs.Sized.{gcd_of}
 use Rattle.field_core.proofs.Sized.{sized_small}
-use Rattle.field_core.proofs.Stein.{gcd_of_zero, gcd_by_one, gcd_with_one}
+use Rattle.field_core.proofs.Stein.{gcd_of_zero}
 use Rattle.fraction.specs.Written.{written_mul, written_add}
+use Rattle.field_core.proofs.Wholes.{over_one}
+use Rattle.field_core.proofs.Coprime.{gcd_one, one_gcd}
+use lib.IntN.{zero-*ℤ}
 
 -- 0 in lowest terms is over 1
 pub den_of_zero : (x : Terms) → IsReduced x → x.num ≡ pos 0 → x.den ≡ pos 1
@@ -20,25 +23,12 @@ den_of_zero x r e =
     let some : pos 0 <ℤ x.den = r.positive in
     omega (arith, ints)
 
-over_one : (z : ℤ) → int_div z (pos 1) ≡ z
-over_one (pos n) = ap pos (div-one n)
-over_one (negsuc n) = ap (λ k. neg_ℤ (pos k)) (div-one (suc n))
-
 zero_over : (k : ℕ) (z : ℤ) → int_div (pos 0) (pos k) *ℤ z ≡ pos 0
 zero_over k z = ap (λ n. pos n *ℤ z) (zero-div k) ∙ (omega (arith, ints))
 
 one_over : (z : ℤ) → pos 0 <ℤ z → int_div z (gcd_of (pos 0) z) ≡ pos 1
 one_over (pos n) some = let up : 0 < n = omega (arith, ints) in ap (λ g. pos (n / g)) (sym (gcd_of_zero 0 n refl)) ∙ ap pos (div_self up)
 one_over (negsuc n) some = absurd (omega (arith, ints))
-
-gcd_one : (n : ℕ) → gcd n 1 ≡ 1
-gcd_one n = sym (gcd_by_one n 1 refl)
-
-one_gcd : (n : ℕ) → gcd 1 n ≡ 1
-one_gcd n = sym (gcd_with_one 1 n (inl refl))
-
-nothing_times : (z : ℤ) → pos 0 *ℤ z ≡ pos 0
-nothing_times z = omega (arith, ints)
 
 written_mul_comm : (x y : Terms) → written_mul x y ≡ written_mul y x
 unfolding written_mul
@@ -85,14 +75,14 @@ add_is x y z u v g e f small low t d r =
 zero_plus_terms : (x y : Terms) → IsReduced x → IsReduced y → x.num ≡ pos 0 → Some y ≡ written_add x y
 zero_plus_terms x y r s e =
     let d = den_of_zero x r e in
-    sym (add_is x y y (pos 0) y.num (rw (d, one_gcd (unsigned_abs y.den)) refl) (rw e (nothing_times (int_div y.den (pos 1)))) (rw d (omega (arith, ints)))
+    sym (add_is x y y (pos 0) y.num (rw (d, one_gcd (unsigned_abs y.den)) refl) (rw e (zero-*ℤ (int_div y.den (pos 1)))) (rw d (omega (arith, ints)))
     (lit< tt) s.num_size (omega (arith, ints)) (rw d (omega (arith, ints))) s)
 
 plus_zero_terms : (x y : Terms) → IsReduced x → IsReduced y → y.num ≡ pos 0 → Some x ≡ written_add x y
 plus_zero_terms x y r s e =
     let d = den_of_zero y s e in
     sym (add_is x y x x.num (pos 0) (rw (d, gcd_one (unsigned_abs x.den)) refl) (rw d (omega (arith, ints)))
-    (rw e (nothing_times (int_div x.den (pos 1)))) r.num_size (lit< tt) (omega (arith, ints)) (rw d (omega (arith, ints))) r)
+    (rw e (zero-*ℤ (int_div x.den (pos 1)))) r.num_size (lit< tt) (omega (arith, ints)) (rw d (omega (arith, ints))) r)
 
 pub zero_times : (x y : ShortRatio) → x.num ≡ pos 0 → Some (short_terms x) ≡ written_mul (short_terms x) (short_terms y)
 zero_times x y e = zero_times_terms (short_terms x) (short_terms y) x.valid y.valid e

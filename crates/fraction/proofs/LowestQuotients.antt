@@ -16,15 +16,13 @@ use Rattle.numerals.proofs.LowestTerms.{abs_sign, lowest_cross}
 use Rattle.fraction.specs.declared.fault.FractionFault.{FractionFault}
 use Rattle.fraction.specs.declared.fault.FractionFault.TheVariants.{ZeroDenominator, TooWide}
 use Rattle.fraction.specs.Quotients.{IsLowest}
+use Rattle.field_core.proofs.Wholes.{size_none}
 
 differ_is : (a b : Bool) → not (beq a b) ≡ differ a b
 differ_is true true = refl
 differ_is true false = refl
 differ_is false true = refl
 differ_is false false = refl
-
-nothing : (z : ℤ) → unsigned_abs z ≡ 0 → z ≡ pos 0
-nothing z h = omega (arith, ints)
 
 -- What is read of two whole numbers: their signs, their sizes, and the sizes without common divisors.
 pub record AreRead (n d : ℤ) (below turned : Bool) (over under p q : ℕ) : Type 0 where
@@ -58,7 +56,7 @@ apart_from_zero d under e h f = h (e ∙ ap unsigned_abs f)
 
 pub no_denominator : (n d : ℤ) (under : ℕ) → under ≡ unsigned_abs d → under ≡ 0 → IsLowest n d (Err ZeroDenominator)
 unfolding IsLowest
-no_denominator n d under e h = nothing d (sym e ∙ h)
+no_denominator n d under e h = size_none d (sym e ∙ h)
 
 pub too_wide : (n d : ℤ) (below turned : Bool) (over under p q : ℕ) → AreRead n d below turned over under p q → ¬ (under ≡ 0) → (2 ^ 127 - 1 < p)
     ⊎ (2 ^ 127 - 1 < q) → IsLowest n d (Err TooWide)

@@ -20,6 +20,7 @@ use Rattle.field_core.specs.Texts.{fraction_text}
 use Rattle.fraction.specs.Spelling.{spelling, IsSpellingByte}
 use Rattle.numerals.proofs.LowestTerms.{sign_is}
 use Rattle.numerals.proofs.Zeros.{length_without_le, trailing_le}
+use Rattle.field_core.proofs.Wholes.{one_of_size}
 
 -- ---- decimal digits
 
@@ -80,7 +81,7 @@ whole_text : (x : Terms) → x.den ≡ pos 1 → spelling x ≡ sign_text (sign_
 unfolding spelling
 whole_text x e = rw e (spelt x.num ∙ sym (append-nil _))
 
-other_text : (n d : ℤ) → (d ≡ pos 1 → ⊥) → fraction_text n d ≡ signed_decimal n ++ 47 ∷ signed_decimal d
+pub other_text : (n d : ℤ) → (d ≡ pos 1 → ⊥) → fraction_text n d ≡ signed_decimal n ++ 47 ∷ signed_decimal d
 other_text n d h = grind (arith, nat_tests, Decides-int_eq)
 
 pair_text : (x : Terms) → pos 0 <ℤ x.den → (x.den ≡ pos 1 → ⊥)
@@ -138,13 +139,10 @@ pair_back x r h s t =
     (λ w. elim w [ inl m ↦ omega (arith, few_without (unsigned_abs x.num) s) | inr m ↦ omega (arith, few_without (unsigned_abs x.den) t) ]) in
     record { numeral = pair_numeral x r.positive h s t; defined = some; within = few; lowest = r; same = ap₂ ◌*ℤ◌ (sym num) den }
 
-den_is_one : (z : ℤ) → pos 0 <ℤ z → unsigned_abs z ≡ 1 → z ≡ pos 1
-den_is_one z p e = omega (arith, ints)
-
 pub read_back : (x : Terms) → IsReduced x → unsigned_abs x.num < 10 ^ 38 → unsigned_abs x.den < 10 ^ 38 → IsNumeralOf (spelling x) x
 read_back x r n d =
     elim (cases_eq (unsigned_abs x.den) 1) [
-      | inl one ↦ whole_back x r (den_is_one x.den r.positive one) (short (unsigned_abs x.num) n)
+      | inl one ↦ whole_back x r (one_of_size x.den r.positive one) (short (unsigned_abs x.num) n)
       | inr other ↦ pair_back x r (λ e. other (ap unsigned_abs e)) (short (unsigned_abs x.num) n) (short (unsigned_abs x.den) d)
     ]
 

@@ -36,7 +36,7 @@ abs_product : (x y : ℤ) (a b : ℕ) → unsigned_abs x ≤ a → unsigned_abs 
 abs_product x y a b h g = subst (λ n. n ≤ a * b) (sym (unsigned_abs-mul x y)) (mul-le-mul h g)
 
 -- a quotient times another one
-abs_quotients : (x y : ℤ) (g h a b : ℕ) → unsigned_abs x ≤ a → unsigned_abs y ≤ b
+pub abs_quotients : (x y : ℤ) (g h a b : ℕ) → unsigned_abs x ≤ a → unsigned_abs y ≤ b
     → unsigned_abs (int_div x (pos g) *ℤ int_div y (pos h)) ≤ a * b
 abs_quotients x y g h a b p q = abs_product (int_div x (pos g)) (int_div y (pos h)) a b (through _ (unsigned_abs x) _ (abs_quotient x g) p)
     (through _ (unsigned_abs y) _ (abs_quotient y h) q)

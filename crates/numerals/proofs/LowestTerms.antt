@@ -9,7 +9,7 @@ use Rattle.field_core.specs.Divisor.{gcd}
 use Rattle.field_core.specs.Terms.{Terms, IsReduced}
 use Rattle.numerals.specs.Numeral.{Same, with_sign}
 use Rattle.numerals.specs.Lowest.{lowest_of, differ, lowest_terms}
-use Rattle.field_core.proofs.Wholes.{size_negated, not_negative, neg_times}
+use Rattle.field_core.proofs.Wholes.{size_negated, not_negative, neg_times, size_some}
 use Rattle.numerals.specs.Laws.Unique.{AreLowest, lowest_from, lowest_unique, same_through}
 use Rattle.field_core.proofs.Divisors.{gcd_is}
 use Rattle.field_core.proofs.Coprime.{gcd_bounds, gcd_from_apart, quotients_apart, quotient_divides}
@@ -70,9 +70,6 @@ lowest_cross n d =
     ap (λ z. with_sign (differ (is_negative n) (is_negative d)) (unsigned_abs n / gcd (unsigned_abs n) (unsigned_abs d)) *ℤ z) (sign_is d)
     ∙ signed_cross (is_negative n) (is_negative d) _ _ (unsigned_abs n) (unsigned_abs d) (cross_divided (unsigned_abs n) (unsigned_abs d))
     ∙ ap (λ z. z *ℤ pos (unsigned_abs d / gcd (unsigned_abs n) (unsigned_abs d))) (sym (sign_is n))
-
-size_some : (d : ℤ) → d ≢ pos 0 → 0 < unsigned_abs d
-size_some d h = omega (arith, ints, h)
 
 pub lowest_are : (n d : ℤ) → d ≢ pos 0 → AreLowest (lowest_terms n d)
 unfolding lowest_terms lowest_of

@@ -2,7 +2,7 @@
 use Rattle.std.proofs.Common.{◌≡◌, sym, ap, ◌∙◌, ℕ, Bool, true, false, List, [], Option, Some, None, Ok, ℤ, ◌^◌}
 use Rattle.std.specs.List.{list_all}
 use Rattle.std.specs.Prelude.{codes, nat_le, unsigned_abs, ok_or}
-use Rattle.field_core.proofs.Results.{came_from, same_value}
+use Rattle.field_core.proofs.Results.{came_from, same_value, value_told}
 use Rattle.field_core.specs.declared.ratio.Ratio.{Ratio}
 use Rattle.serde_json.specs.Data.{Data, string, number}
 use Rattle.serde_json.specs.Find.{get, as_integer}
@@ -14,7 +14,7 @@ use Rattle.case_json.specs.Document.{short_weight, whole_weight, edge_of, compon
 use Rattle.case_json.specs.Reading.{SaysDraft}
 use Rattle.case_json.specs.WholeRatios.{whole_ratio}
 use Rattle.case_json.specs.declared.fault.JsonFault.TheVariants.{NotWhole, Expr}
-use Rattle.case_json.proofs.Drafts.{Tested, value_told, in_part, all_in}
+use Rattle.case_json.proofs.Drafts.{Tested, in_part, all_in}
 use Rattle.entries.specs.Entries.{entry_of}
 use Rattle.entries.proofs.Entries.{entry_is}
 use Rattle.printed.proofs.WholeDrafts.{whole_edge, whole_component, IsWhole}

@@ -2,7 +2,7 @@
 use Rattle.std.proofs.Common.{◌≡◌, refl, sym, ap, ap₂, ◌∙◌, ℕ, ◌+◌, ◌==◌, ◌&&◌, Bool, true, false, cond}
 use Rattle.std.proofs.Common.{List, [], ◌∷◌, ◌++◌, drop, length, Ok, inl, inr}
 use Rattle.std.specs.List.{AllZip, list_all}
-use Rattle.field_core.proofs.Results.{came_from, same_value}
+use Rattle.field_core.proofs.Results.{came_from, same_value, value_told}
 use Rattle.field_core.specs.declared.ratio.Ratio.{Ratio}
 use Rattle.case_model.specs.declared.draft.Draft.{Draft}
 use Rattle.case_model.specs.declared.draft_component.DraftComponent.{DraftComponent}
@@ -13,7 +13,6 @@ use Rattle.case_csv.specs.Answers.{at}
 use Rattle.case_csv.specs.Table.{Cells, RowSaid, SheetSaid, edge_of, start_of, entries_of, row_of, rows_of, header_of, sheet_of, edge_at, row_edges}
 use Rattle.case_csv.specs.Table.{table_edges, draft_of, IsTable}
 use Rattle.case_csv.specs.declared.fault.RowKind.TheVariants.{Expr}
-use Rattle.case_json.proofs.Drafts.{value_told}
 use Rattle.edge_text.specs.CanonicalText.{is_absent}
 use Rattle.edge_text.specs.Grammar.{IsEdgeLine, IsSharedBlock, AreBlocks, IsText}
 use Rattle.entries.specs.Entries.{entry_of}

@@ -13,9 +13,7 @@ use Rattle.removal.specs.StoredGraph.{StoredGraph, IsSquare, size, weight, all_l
 use Rattle.removal.specs.ByValue.{AreStored}
 use Rattle.removal.specs.Laws.Seen.{edge_apart, edge_itself}
 use Rattle.removal.proofs.Opening.{size-all_live}
-use Rattle.removal.proofs.Loops.{last}
 use Rattle.eps_poly.specs.Polynomials.{IsConstant}
-use Rattle.eps_poly.proofs.SumLaws.{sized_inside}
 use Rattle.eps_quotient.specs.Lowering.{zero_quotient}
 use Rattle.eps_quotient.specs.Quotients.{quotients}
 use Rattle.eps_quotient.specs.Stored.{IsQuotient}
@@ -25,6 +23,8 @@ use Rattle.eps_quotient.specs.declared.quotient.EpsQuotient.{EpsQuotient}
 use Rattle.row_removal.specs.Gathering.{HasConstants, given, with_denominator, common_below}
 use Rattle.row_removal.specs.GivenView.{graph_given}
 use Rattle.row_removal.specs.Laws.GatheringLaws.{next_is}
+use Rattle.field_core.proofs.Sized.{sized_says}
+use Rattle.field_core.proofs.Positions.{at_or_below}
 
 module _ (ws es : List EpsQuotient) where
   pub size_given : size (graph_given ws es) ≡ length ws
@@ -77,7 +77,7 @@ positive_next place c d h i = go (sized (int_div c (gcd_of c d) *ℤ d)) refl
   where
     go : (r : Option ℤ) → sized (int_div c (gcd_of c d) *ℤ d) ≡ r → IfOk (at place Mul r) (λ e. pos 0 <ℤ e)
     go None e = tt
-    go (Some x) e = subst (λ z. pos 0 <ℤ z) (sym (sized_inside _ x e).0) (next_is c d h i).positive
+    go (Some x) e = subst (λ z. pos 0 <ℤ z) (sym (sized_says _ x e).0) (next_is c d h i).positive
 
 module _ (G : StoredGraph) (row : Option ℕ) where
   common_suc : (n : ℕ) → common_below G row (suc n) ≡ (common_below G row n >>= (λ c. with_denominator G row n c))
@@ -94,7 +94,7 @@ module _ (G : StoredGraph) (row : Option ℕ) where
   fault : (n k : ℕ) (b : ℤ) (w : Wide) → k < n → common_below G row k ≡ Ok b → with_denominator G row k b ≡ Err w
       → common_below G row n ≡ Err w
   fault zero k b w h e f = absurd (omega arith)
-  fault (suc n) k b w h e f = elim (last k n h) [
+  fault (suc n) k b w h e f = elim (at_or_below k n h) [
     | inl q ↦ let e' = rw q at e in let f' = rw q at f in rw (common_suc n, e', f') refl
     | inr q ↦ rw (common_suc n, fault n k b w q e f) refl
   ]

@@ -33,7 +33,7 @@ use Rattle.entangled.specs.declared.open_fault.OpenFault.TheVariants.{Wide, NoMe
 use Rattle.entangled.specs.CaseRun.{CaseState, case_opening, case_removal, opening_in, case_numbers, case_size, case_shares}
 use Rattle.entangled.proofs.CaseLevels.{case_sizes}
 use Rattle.entangled.proofs.CaseNumbers.{plain_opening, other_opening}
-use Rattle.entangled.proofs.CaseRuns.{same_state, after_more, after_opening}
+use Rattle.entangled.proofs.CaseRuns.{after_more, after_opening}
 use Rattle.entangled.proofs.CaseSteps.{numbers_stay, case_shares_stay}
 use Rattle.sequential.specs.OtherPValues.{with_p, CasesAreValidWithOtherPValues, IsTrialOfGraph}
 use Rattle.sequential.specs.OpeningFault.{at_step_zero}
@@ -42,6 +42,7 @@ use Rattle.sequential.specs.WideDecisions.{IsDecideFault}
 use Rattle.sequential.specs.declared.fault.RunFault.{RunFault}
 use Rattle.sequential.specs.declared.priority.Priority.{Priority}
 use Rattle.sequential.proofs.TrialFacts.{sizes_are, p_values_are}
+use Rattle.field_core.specs.Laws.Prefixes.{ok_same}
 
 -- ---- places that are all filled
 
@@ -165,7 +166,7 @@ kept_by_one j s t f rest (Err w) e h = absurd (cc)
 
 kept : (js : List ℕ) (s t : CaseState) → removed_in_turn case_removal s js ≡ Ok t → AreKept s t
 unfolding removed_in_turn
-kept [] s t h = let e = same_state (Ok s) s t refl h in record { numbers = ap case_numbers (sym e); shares = ap case_shares (sym e) }
+kept [] s t h = let e = ok_same (Ok s) s t refl h in record { numbers = ap case_numbers (sym e); shares = ap case_shares (sym e) }
 kept (j ∷ js) s t h = kept_by_one j s t (λ u. removed_in_turn case_removal u js) (λ u k. kept js u t k) (case_removal s j) refl h
 
 -- a trial of the graph is of the numbers, the shares and the size of the opening

@@ -1,5 +1,5 @@
 -- What is known of each study, whatever its case.
-use Rattle.std.proofs.Common.{◌≡◌, ◌⊎◌, ◌≤◌, refl, sym, ap, ◌∙◌, subst, ℕ, suc, ◌<◌, ◌-◌, arith, Bool, true, List, []}
+use Rattle.std.proofs.Common.{◌≡◌, ◌≤◌, refl, sym, ap, ◌∙◌, subst, ℕ, suc, ◌<◌, ◌-◌, arith, Bool, true, List, []}
 use Rattle.std.proofs.Common.{◌∷◌, ◌++◌, length}
 use Rattle.std.proofs.lemmas.List.{map_push}
 use Rattle.std.proofs.Math.Logic.{∥∥₁_elim, ∥∥₁_prop}
@@ -81,6 +81,3 @@ next_smaller t new k stage T m n =
     ∙ ap length (map_push (λ r. r.hypothesis) t.looks.rejected n.line) ∙ length_push (positions_of t.looks.rejected) n.line.hypothesis in
     let s : size_of new ≡ size_of t = ap length n.spends in
     omega (arith, few, e, s)
-
-pub stage_cases : (a n : ℕ) → (a < n) ⊎ (n ≤ a)
-stage_cases a n = grind arith

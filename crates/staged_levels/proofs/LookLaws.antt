@@ -1,5 +1,5 @@
 -- A case has its looks, or one place where they stop part way, and not both.
-use Rattle.std.proofs.Common.{◌≡◌, ◌⊎◌, inl, inr, refl, sym, ap, ap₂, ◌∙◌, subst, ℕ, ◌+◌, List, [], ◌∷◌, ◌++◌, Result, Ok}
+use Rattle.std.proofs.Common.{◌≡◌, ◌⊎◌, inl, inr, refl, sym, ap, ap₂, ◌∙◌, subst, ℕ, ◌+◌, List, [], ◌∷◌, ◌++◌, Ok}
 use Rattle.std.proofs.Common.{Err}
 use Rattle.std.proofs.lemmas.List.{append_assoc, append-nil, map_push}
 use Rattle.field_core.specs.declared.place.WideAt.{WideAt}
@@ -18,11 +18,9 @@ use Rattle.staged_levels.specs.StudyCalls.{IsArrival, IsRejection, AreFirstRejec
 use Rattle.staged_levels.specs.StudyAnswers.{IsWideSettling}
 use Rattle.staged_levels.specs.Looks.{IsDefined, IsLook, IsWideLook, LooksLead, AreLooks, IsFirstWideLook, BreaksOff}
 use Rattle.staged_levels.proofs.Settlings.{rejection_unique, settling_unique}
+use Rattle.field_core.proofs.Results.{one_fault}
 
 -- ---- removals in turn
-
-same_wide : (r : Result CaseState WideAt) (v w : WideAt) → r ≡ Err v → r ≡ Err w → v ≡ w
-same_wide r v w h k = cc
 
 -- what begins with a removal that is undefined isn't defined
 refused_stops : (c : Content) (js : List ℕ) (j : ℕ) (rest : List ℕ) (s t : CaseState) (w : WideAt) → case_after c js ≡ Ok s
@@ -95,7 +93,7 @@ module _ (c : Content) where
       here s t v w V W e =
           let U : IsWideSettling c s w = subst (λ o. IsWideSettling c o w) e W in
           let same : U.next ≡ V.next = first_unique (IsStagedLegalIn c s.values) (remaining s) U.next V.next U.is_first V.is_first in
-          same_wide (case_after c (positions_of s.rejected ++ (V.next ∷ []))) v w V.wide
+          one_fault (case_after c (positions_of s.rejected ++ (V.next ∷ []))) v w V.wide
           (subst (λ j. case_after c (positions_of s.rejected ++ (j ∷ [])) ≡ Err w) same U.wide)
 
       forth : (more : List ℕ) → AreFirstRejections c s more t → v ≡ w
@@ -184,4 +182,4 @@ module _ (c : Content) where
   not_opened w e D = opening_wide w D.state [] e D.state_is
 
   pub one_opening : (v w : WideAt) → case_opening c ≡ Err v → case_opening c ≡ Err w → v ≡ w
-  one_opening v w = same_wide (case_opening c) v w
+  one_opening v w = one_fault (case_opening c) v w

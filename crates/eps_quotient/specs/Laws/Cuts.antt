@@ -6,7 +6,7 @@ use Rattle.std.proofs.lemmas.Int.{ints}
 use Rattle.std.proofs.Math.IntN.{*ℤ-zero, zero-*ℤ}
 use Rattle.std.proofs.Math.Nat.{div-le_self, mul-div_cancel', eq-one_of_dvd-one}
 use Rattle.field_core.specs.Polynomial.{Same, poly_multiply, lowest, IsNonZero}
-use Rattle.field_core.specs.Laws.PolynomialLaws.{multiply_comm, lowest-multiply, lowest-same}
+use Rattle.field_core.specs.Laws.PolynomialLaws.{multiply_comm, lowest-multiply, lowest-same, same_sym}
 use Rattle.eps_poly.specs.Polynomials.{IsPolynomial, monomial, zero_polynomial}
 use Rattle.eps_poly.specs.Factors.{content, order, factor, lowered, from_factors, IsCore, core}
 use Rattle.eps_poly.proofs.ContentLaws.{content_divides, content_small}
@@ -15,7 +15,7 @@ use Rattle.field_core.proofs.Wholes.{quotient_times, size_quotient}
 use Rattle.eps_poly.proofs.OrderLaws.{order_below, lowest_from_coefficient}
 use Rattle.eps_poly.proofs.Validity.{zero_valid, set_valid, lowered_valid}
 use Rattle.eps_quotient.specs.Lowering.{one_polynomial}
-use Rattle.eps_quotient.specs.Laws.QuotientLaws.{same_sym, same_trans}
+use Rattle.eps_quotient.specs.Laws.QuotientLaws.{same_trans}
 use Rattle.eps_quotient.specs.Laws.Multiples.{factors-factors, factors-same, length-monomial, monomial-at, monomial-factors, monomial-multiply, content-same}
 use Rattle.eps_quotient.specs.Laws.Multiples.{content-factors}
 use Rattle.eps_quotient.specs.Laws.Cores.{Is, only_core, length-core, length-lowered, size-factor, factor_some}

@@ -13,7 +13,7 @@ use Rattle.field_core.specs.declared.place.Op.{Op}
 use Rattle.field_core.specs.declared.place.Op.TheVariants.{Add, Sub, Mul, Div}
 use Rattle.field_core.specs.Kind.{Parts, is_zero, sign_of, ok_map, or_wide}
 use Rattle.field_core.specs.Polynomial.{coefficient, lowest, int_sign, IsNonZero}
-use Rattle.field_core.specs.Laws.PolynomialLaws.{nonzero-multiply, int_sign-none, positive_in, lowest-same, lowest-multiply, lowest-negate, coefficient-negate}
+use Rattle.field_core.specs.Laws.PolynomialLaws.{nonzero-multiply, int_sign-none, positive_in, lowest-same, lowest-multiply, lowest-negate, coefficient-negate, same_sym}
 use Rattle.field_core.specs.Number.{Number}
 use Rattle.field_core.specs.Arithmetic.{number_zero, number_one, number_negate, number_sign, number_compare, ◌+ε◌, ◌-ε◌, ◌*ε◌}
 use Rattle.field_core.specs.Laws.NumberLaws.{number_sign_zero, number_add_zero, number_multiply_one}
@@ -28,19 +28,19 @@ use Rattle.eps_poly.specs.Polynomials.{IsPolynomial, is_same, zero_polynomial}
 use Rattle.eps_poly.specs.Factors.{content, core}
 use Rattle.eps_poly.proofs.Coefficients.{same_from}
 use Rattle.eps_poly.proofs.Validity.{negate_valid}
-use Rattle.eps_poly.proofs.SizedLists.{bind_some}
 use Rattle.eps_poly.proofs.SumLaws.{sum_polynomial, sum_is_exact}
 use Rattle.eps_poly.proofs.ProductLaws.{product_polynomial, product_is_exact}
 use Rattle.eps_quotient.specs.Lowering.{one_polynomial, zero_quotient, one_quotient, lower, norm}
 use Rattle.eps_quotient.specs.Quotients.{is_one, opposite, inverse, product_of, written_product, sum_over, sum_of, written_sum, written_quotient, quotients}
 use Rattle.eps_quotient.specs.Stored.{IsQuotient}
-use Rattle.eps_quotient.specs.Laws.QuotientLaws.{same_sym, same_nonzero, product_value, sum_over_same, sum_value, zero_value, one_value, inverse_value}
+use Rattle.eps_quotient.specs.Laws.QuotientLaws.{same_nonzero, product_value, sum_over_same, sum_value, zero_value, one_value, inverse_value}
 use Rattle.eps_quotient.specs.Laws.QuotientLaws.{divide_value, sign_value}
 use Rattle.eps_quotient.specs.Laws.LimitTerms.{first_below, first_above, limit_terms-reduced, limit_terms-value}
 use Rattle.eps_quotient.specs.Laws.LowerLaws.{IsLowered, lower_is, zeros_lowest, others_lowest, either_branch, one_some, one_held, one_is, one_first}
 use Rattle.eps_quotient.specs.Laws.LowerLaws.{zero_lowest, zero_quotient_is, gcd_one}
 use Rattle.eps_quotient.specs.Laws.Cuts.{one_core}
 use Rattle.eps_quotient.specs.Laws.NormLaws.{IsStoredOf, norm_is, upright, lowest_one, negated_none, content-negate, core-negate}
+use Rattle.field_core.proofs.Results.{bind_some}
 
 -- ---- tests
 

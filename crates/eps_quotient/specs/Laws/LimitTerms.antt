@@ -1,9 +1,8 @@
 -- The limit of a quotient from 0 to 1 is the quotient of the coefficients of power 0, in lowest terms.
-use Rattle.std.proofs.Common.{◌≡◌, refl, sym, ◌∙◌, ap, ap₂, zero, suc, ℕ, List, [], ◌∷◌, ℤ, pos, negsuc, ◌+ℤ◌, ◌*ℤ◌}
+use Rattle.std.proofs.Common.{◌≡◌, refl, sym, ◌∙◌, ap, ap₂, zero, suc, List, [], ◌∷◌, ℤ, pos, negsuc, ◌+ℤ◌, ◌*ℤ◌}
 use Rattle.std.proofs.Common.{◌<ℤ◌, neg_ℤ, unsigned_abs, int_div, ◌<◌, ◌^◌, arith}
 use Rattle.std.proofs.lemmas.Int.{ints}
-use Rattle.std.specs.Int.{◌∣◌}
-use Rattle.std.proofs.Math.Nat.{div-le_self, pos_of_dvd_of_pos}
+use Rattle.std.proofs.Math.Nat.{div-le_self}
 use Rattle.std.specs.declared.cmp.Ordering.TheVariants.{Less, Greater}
 use Rattle.field_core.specs.Divisor.{gcd}
 use Rattle.field_core.specs.Sized.{gcd_of}
@@ -11,12 +10,10 @@ use Rattle.field_core.specs.Terms.{IsReduced}
 use Rattle.field_core.specs.Polynomial.{coefficient, poly_add, poly_negate, lowest, int_sign, IsNonZero}
 use Rattle.field_core.specs.Laws.PolynomialLaws.{coefficient-add, coefficient-negate, positive_out}
 use Rattle.field_core.specs.Arithmetic.{number_one, number_sign, ◌+ε◌, ◌-ε◌}
-use Rattle.field_core.specs.LimitRatio.{limit_ratio}
 use Rattle.field_core.specs.Limit.{limit}
 use Rattle.field_core.specs.LimitParts.{first, limit_terms, IsUnit}
 use Rattle.field_core.specs.Fractions.{quotient, fraction}
-use Rattle.field_core.specs.Laws.LimitRespects.{first_other}
-use Rattle.field_core.specs.Laws.LimitLaws.{limit-quotient, lowest-first}
+use Rattle.field_core.specs.Laws.LimitLaws.{limit-quotient, lowest-first, ratio_at}
 use Rattle.field_core.specs.Laws.NumberFieldLaws.{at_most_out}
 use Rattle.field_core.specs.Laws.Order.{nonneg_in, number_subtract_is}
 use Rattle.field_core.specs.Laws.FractionLaws.{quotient-negate, fraction-equal}
@@ -24,8 +21,8 @@ use Rattle.field_core.specs.Laws.Effective.{positive_nonzero}
 use Rattle.field_core.proofs.Divisors.{gcd_is}
 use Rattle.field_core.proofs.IntegerRing.{ring}
 use Rattle.std.proofs.Math.IntN.{+ℤ_idl}
-use Rattle.field_core.proofs.Coprime.{gcd_from_apart, quotients_apart, quotient_divides, gcd_bounds}
-use Rattle.field_core.proofs.Wholes.{quotient_times, size_positive, size_quotient}
+use Rattle.field_core.proofs.Coprime.{gcd_from_apart, quotients_apart, gcd_bounds}
+use Rattle.field_core.proofs.Wholes.{quotient_times, size_positive, size_quotient, quotient_positive}
 use Rattle.eps_quotient.specs.Laws.QuotientLaws.{one_value, sum_over_same, sign_value}
 
 pub first_is : (p : List ℤ) → first p ≡ coefficient p 0
@@ -65,10 +62,6 @@ first_below n d h up some unit z =
 
 -- ---- lowest terms
 
-quotient_positive : (z : ℤ) (g : ℕ) → pos 0 <ℤ z → g ∣ unsigned_abs z → pos 0 <ℤ int_div z (pos g)
-quotient_positive (pos n) g h d = let q = pos_of_dvd_of_pos (quotient_divides g d) (size_positive (pos n) h) in omega (arith, ints)
-quotient_positive (negsuc n) g h d = absurd (omega (arith, ints))
-
 pub lowest_terms : (n d : ℤ) → unsigned_abs n < 2 ^ 127 → unsigned_abs d < 2 ^ 127 → pos 0 <ℤ d
     → IsReduced (record { num = int_div n (gcd_of n d); den = int_div d (gcd_of n d) })
 lowest_terms n d sn sd up =
@@ -94,11 +87,6 @@ same_fraction n d up =
     fraction-equal _ _ n d (positive_nonzero _ (quotient_positive d g up is.1)) (positive_nonzero d up)
     (ap (λ x. int_div n (pos g) *ℤ x) (sym (quotient_times d g is.1)) ∙ crossed (int_div n (pos g)) (int_div d (pos g)) (pos g)
     ∙ ap (λ x. x *ℤ int_div d (pos g)) (quotient_times n g is.0))
-
-ratio_at : (n d : List ℤ) → ¬ (coefficient d 0 ≡ pos 0) → limit_ratio n d ≡ fraction (coefficient n 0) (coefficient d 0)
-unfolding limit_ratio coefficient
-ratio_at n [] h = absurd (h refl)
-ratio_at n (c ∷ d) h = first_other c _ _ h
 
 pub first_above : (d : List ℤ) → int_sign (lowest d) ≡ Greater → ¬ (coefficient d 0 ≡ pos 0) → pos 0 <ℤ coefficient d 0
 first_above d up h = positive_out (coefficient d 0) (ap int_sign (sym (lowest-first d h)) ∙ up)

@@ -13,14 +13,14 @@ use Rattle.field_core.proofs.Coprime.{gcd_scaled}
 use Rattle.field_core.specs.Divisor.{gcd}
 use Rattle.field_core.specs.Laws.Integers.{int_multiply_assoc, int_multiply_one}
 use Rattle.field_core.specs.Polynomial.{coefficient, Same, poly_scale, poly_multiply}
-use Rattle.field_core.specs.Laws.PolynomialLaws.{ring, value-multiply, same_in, coefficient-add, coefficient-scale, multiply-shift_left, multiply_comm}
+use Rattle.field_core.specs.Laws.PolynomialLaws.{ring, value-multiply, same_in, coefficient-add, coefficient-scale, multiply-shift_left, multiply_comm, shift-same, same_sym}
 use Rattle.eps_poly.specs.Polynomials.{zero_polynomial, monomial}
 use Rattle.eps_poly.specs.Factors.{content, from_factors}
 use Rattle.eps_poly.proofs.Coefficients.{coefficient-zero, length-zero, coefficient-set_same, coefficient-set_other}
 use Rattle.eps_poly.proofs.ContentLaws.{content_divides, content_greatest}
 use Rattle.eps_poly.proofs.FactorLaws.{coefficient-factors_below, coefficient-factors}
 use Rattle.eps_quotient.specs.Lowering.{one_polynomial}
-use Rattle.eps_quotient.specs.Laws.QuotientLaws.{same_sym, same_trans, multiply-same, multiply-one}
+use Rattle.eps_quotient.specs.Laws.QuotientLaws.{same_trans, multiply-same, multiply-one}
 
 -- ---- by the coefficients
 
@@ -63,11 +63,6 @@ factors-same c k p q s =
 
 -- ---- products
 
-pub front-same : (p q : List ℤ) → Same p q → Same (pos 0 ∷ p) (pos 0 ∷ q)
-unfolding coefficient
-front-same p q s zero = refl
-front-same p q s (suc k) = s k
-
 nothing : (k : ℕ) → coefficient (pos 0 ∷ []) k ≡ pos 0
 unfolding coefficient
 nothing zero = refl
@@ -88,7 +83,7 @@ multiply-scale c p q =
 
 multiply-raised : (k : ℕ) (p q : List ℤ) → Same (poly_multiply (replicate k (pos 0) ++ p) q) (replicate k (pos 0) ++ poly_multiply p q)
 multiply-raised zero p q j = refl
-multiply-raised (suc k) p q j = multiply-shift_left (replicate k (pos 0) ++ p) q j ∙ front-same _ _ (multiply-raised k p q) j
+multiply-raised (suc k) p q j = multiply-shift_left (replicate k (pos 0) ++ p) q j ∙ shift-same _ _ (multiply-raised k p q) j
 
 scale-same : (c : ℤ) (p q : List ℤ) → Same p q → Same (poly_scale c p) (poly_scale c q)
 scale-same c p q s k = coefficient-scale c p k ∙ ap (λ x. c *ℤ x) (s k) ∙ sym (coefficient-scale c q k)

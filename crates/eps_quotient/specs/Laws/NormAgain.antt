@@ -6,30 +6,25 @@ use Rattle.std.specs.Int.{is_negative}
 use Rattle.std.specs.declared.cmp.Ordering.TheVariants.{Greater}
 use Rattle.std.proofs.lemmas.Bool.{cases_lt}
 use Rattle.std.proofs.lemmas.Bool.Decides.{nat_tests}
-use Rattle.std.proofs.Math.Nat.{one-dvd}
 use Rattle.field_core.specs.Kind.{Parts, is_zero_integer}
-use Rattle.field_core.specs.Laws.Integers.{int_multiply_one}
 use Rattle.field_core.specs.Polynomial.{coefficient, Same, poly_negate, lowest, int_sign, IsNonZero}
-use Rattle.field_core.specs.Laws.PolynomialLaws.{lowest-none}
+use Rattle.field_core.specs.Laws.PolynomialLaws.{same_sym}
 use Rattle.eps_poly.specs.Polynomials.{is_same, zero_polynomial, monomial}
 use Rattle.eps_poly.specs.Factors.{order, factor, lowered, core, from_factors}
 use Rattle.eps_poly.proofs.Coefficients.{same_from, same_polynomials, length-zero, coefficient-zero}
-use Rattle.eps_poly.proofs.OrderLaws.{coefficient-below_order}
+use Rattle.eps_poly.proofs.OrderLaws.{coefficient-below_order, none_but_zero}
 use Rattle.eps_poly.proofs.FactorLaws.{coefficient-lowered, core_factors}
 use Rattle.eps_quotient.specs.Laws.Cores.{length-lowered}
 use Rattle.eps_quotient.specs.Laws.Multiples.{length-monomial, monomial-factors}
-use Rattle.field_core.proofs.Wholes.{quotient_times}
+use Rattle.field_core.proofs.Wholes.{over_one}
 use Rattle.eps_quotient.specs.Lowering.{one_polynomial, zero_quotient, common_order, without_powers, without_cores, lower, turned, norm}
 use Rattle.eps_quotient.specs.Stored.{IsQuotient}
-use Rattle.eps_quotient.specs.Laws.QuotientLaws.{same_sym, same_trans}
+use Rattle.eps_quotient.specs.Laws.QuotientLaws.{same_trans}
 use Rattle.eps_quotient.specs.Laws.Cuts.{order_within}
 use Rattle.eps_quotient.specs.Laws.LowerLaws.{zeros_lowest, others_lowest, either_branch}
 use Rattle.eps_quotient.specs.Laws.Exact.{some_below}
 
 -- ---- nothing is left to cut
-
-by_one : (z : ℤ) → int_div z (pos 1) ≡ z
-by_one z = sym (int_multiply_one (int_div z (pos 1))) ∙ quotient_times z 1 (one-dvd _)
 
 least_none : (i k : ℕ) → ¬ ((0 < i) × (0 < k)) → min i k ≡ 0
 least_none i k h = elim (cases_lt 0 i) [
@@ -44,14 +39,14 @@ no_order x s = least_none (order x.numerator) (order x.denominator)
 lowered_again : (p : List ℤ) → length p ≡ 33 → lowered 0 (pos 1) p ≡ p
 lowered_again p count =
     same_polynomials (lowered 0 (pos 1) p) p (length-lowered 0 (pos 1) p ∙ sym count)
-    (λ i h. coefficient-lowered 0 (pos 1) p i count ∙ by_one (coefficient p (i + 0)) ∙ ap (coefficient p) (plus_zero i))
+    (λ i h. coefficient-lowered 0 (pos 1) p i count ∙ over_one (coefficient p (i + 0)) ∙ ap (coefficient p) (plus_zero i))
   where
     plus_zero : (i : ℕ) → i + 0 ≡ i
     plus_zero i = omega arith
 
 monomial_again : (p : List ℤ) → length p ≡ 33 → IsNonZero p → core p ≡ one_polynomial → monomial (int_div (factor p) (pos 1)) (order p - 0) ≡ p
 monomial_again p count some is =
-    ap₂ monomial (by_one (factor p)) (minus_zero (order p))
+    ap₂ monomial (over_one (factor p)) (minus_zero (order p))
     ∙ same_polynomials (monomial (factor p) (order p)) p (length-monomial (factor p) (order p) ∙ sym count)
     (λ i h. same_trans _ _ _ (monomial-factors (factor p) (order p) (order_within p count some)) (same_sym p _ whole) i)
   where
@@ -66,14 +61,10 @@ monomial_again p count some is =
 pair_of : (x : Parts) (n d : List ℤ) → n ≡ x.numerator → d ≡ x.denominator → record { numerator = n; denominator = d } ≡ x
 pair_of x n d e f = ap₂ (λ n d. record { numerator = n; denominator = d }) e f
 
-none_at : (p : List ℤ) → lowest p ≡ pos 0 → (k : ℕ) → coefficient p k ≡ pos 0
-unfolding coefficient
-none_at p e k = lowest-none p e k
-
 zero_again : (x : Parts) → IsQuotient x → lowest x.numerator ≡ pos 0 → zero_quotient ≡ x
 zero_again x s e =
     pair_of x zero_polynomial one_polynomial
-    (same_polynomials zero_polynomial x.numerator (length-zero ∙ sym s.above.count) (λ k h. coefficient-zero k ∙ sym (none_at x.numerator e k)))
+    (same_polynomials zero_polynomial x.numerator (length-zero ∙ sym s.above.count) (λ k h. coefficient-zero k ∙ sym (none_but_zero x.numerator e k)))
     (sym (s.zero_over_one e))
 
 powers_again : (x : Parts) → IsQuotient x → without_powers x.numerator x.denominator ≡ x

@@ -3,7 +3,7 @@ use Rattle.std.proofs.Common.{◌≡◌, refl, sym, ◌∙◌, ap, ap₂, List, 
 use Rattle.std.specs.declared.cmp.Ordering.TheVariants.{Greater}
 use Rattle.field_core.specs.Polynomial.{Same, poly_add, poly_multiply, lowest, int_sign, IsNonZero}
 use Rattle.field_core.specs.Laws.Ring.{multiply_left_comm, distribute_right}
-use Rattle.field_core.specs.Laws.PolynomialLaws.{ring, value, value-add, value-multiply, value-zero, value-one, same_in, same_out, multiply_comm, lowest-same}
+use Rattle.field_core.specs.Laws.PolynomialLaws.{ring, value, value-add, value-multiply, value-zero, value-one, same_in, same_out, multiply_comm, lowest-same, same_sym}
 use Rattle.field_core.specs.Laws.PolynomialLaws.{lowest-multiply, lowest-none, nonzero-multiply, nonzero-one, int_sign-scale}
 use Rattle.field_core.specs.Number.{Number}
 use Rattle.field_core.specs.Arithmetic.{number_zero, number_one, ◌+ε◌, ◌*ε◌, ◌/ε◌, number_sign}
@@ -14,9 +14,6 @@ use Rattle.field_core.specs.Laws.FractionLaws.{quotient-pair, quotient-equal, qu
 use Rattle.field_core.specs.Laws.Effective.{cross_of_quotients}
 
 -- ---- the same polynomials
-
-pub same_sym : (p q : List ℤ) → Same p q → Same q p
-same_sym p q s k = sym (s k)
 
 pub same_trans : (p q r : List ℤ) → Same p q → Same q r → Same p r
 same_trans p q r s t k = s k ∙ t k

@@ -1,6 +1,6 @@
 -- The plain kind is exact.
 use Rattle.std.proofs.Common.{◌≡◌, ◌≢◌, refl, sym, ap, ap₂, subst, ◌∙◌, ℤ, pos, negsuc, zero, suc, neg_ℤ, ◌*ℤ◌, ◌<ℤ◌, []}
-use Rattle.std.proofs.Common.{◌∷◌, true, false, Option, Some, None, arith}
+use Rattle.std.proofs.Common.{◌∷◌, Option, Some, None, arith}
 use Rattle.std.specs.Option.{option_map}
 use Rattle.std.proofs.lemmas.Int.{ints}
 use Rattle.field_core.specs.declared.place.Op.{Op}
@@ -9,11 +9,11 @@ use Rattle.field_core.specs.Terms.{Terms, IsReduced}
 use Rattle.fraction.specs.Written.{opposite, inverse, inverse_of}
 use Rattle.fraction.specs.Laws.CrossProducts.{sum_of, product_of}
 use Rattle.fraction.specs.Laws.Turned.{opposite_reduced, inverse_reduced}
-use Rattle.field_core.specs.Laws.Integers.{integers, int_negate_multiply, int_multiply_negate, int_negate_negate}
+use Rattle.field_core.specs.Laws.Integers.{integers, int_negate_multiply, int_multiply_negate, int_negate_negate, int_multiply_one}
 use Rattle.field_core.specs.Number.{Number}
 use Rattle.field_core.specs.Arithmetic.{number_zero, number_one, number_negate, number_sign, ◌+ε◌, ◌*ε◌, ◌/ε◌, number_compare}
 use Rattle.field_core.specs.Laws.PolynomialLaws.{nonzero-one, int_sign-scale, positive_in}
-use Rattle.field_core.specs.Polynomial.{lowest, int_sign}
+use Rattle.field_core.specs.Polynomial.{int_sign}
 use Rattle.field_core.specs.Laws.NumberLaws.{number_multiply_assoc, number_multiply_one}
 use Rattle.field_core.specs.Laws.Order.{number_subtract_is, divide_unique}
 use Rattle.field_core.specs.Fractions.{fraction}
@@ -27,6 +27,7 @@ use Rattle.field_core.specs.Exact.{IsExact, MayTake, value_of, exact_result}
 use Rattle.fraction.specs.Plain.{plain, IsFraction, pair_of, single, zero_reduced, one_reduced}
 use Rattle.fraction.specs.Laws.WrittenLaws.{Makes, add_says, mul_says}
 use Rattle.fraction.specs.Laws.PlainLimits.{limit_pair}
+use Rattle.field_core.proofs.Wholes.{is_zero_true, is_zero_false}
 
 abbrev value : Terms → Number
 value p = fraction p.num p.den
@@ -53,16 +54,12 @@ one_is : fraction (pos 1) (pos 1) ≡ number_one
 unfolding number_one
 one_is = quotient-pair (pos 1 ∷ []) (pos 1 ∷ []) nonzero-one
 
-one_right : (a : ℤ) → a *ℤ pos 1 ≡ a
-unfolding integers
-one_right = integers.multiply_one
-
 int_comm : (a b : ℤ) → a *ℤ b ≡ b *ℤ a
 unfolding integers
 int_comm = integers.multiply_comm
 
 crossed : (d s : ℤ) → (d *ℤ s) *ℤ pos 1 ≡ pos 1 *ℤ (s *ℤ d)
-crossed d s = one_right (d *ℤ s) ∙ int_comm d s ∙ sym (int_comm (pos 1) (s *ℤ d) ∙ one_right (s *ℤ d))
+crossed d s = int_multiply_one (d *ℤ s) ∙ int_comm d s ∙ sym (int_comm (pos 1) (s *ℤ d) ∙ int_multiply_one (s *ℤ d))
 
 signs : (d s : ℤ) → neg_ℤ d *ℤ neg_ℤ s ≡ d *ℤ s
 signs d s = int_negate_multiply d (neg_ℤ s) ∙ ap neg_ℤ (int_multiply_negate d s) ∙ int_negate_negate (d *ℤ s)
@@ -113,20 +110,10 @@ zero_first : (x : Parts) → IsFraction x → is_zero x ≡ is_zero_integer (pai
 unfolding is_zero
 zero_first x f = ap is_zero f.shape ∙ zero_integer (pair_of x).num
 
-not_zero : (n : ℤ) → is_zero_integer n ≡ false → n ≢ pos 0
-not_zero (pos zero) h e = cc
-not_zero (pos (suc n)) h e = cc
-not_zero (negsuc n) h e = cc
-
-pub integer_zero : (n : ℤ) → is_zero_integer n ≡ true → n ≡ pos 0
-integer_zero (pos zero) h = refl
-integer_zero (pos (suc n)) h = absurd (cc)
-integer_zero (negsuc n) h = absurd (cc)
-
 value_nonzero : (n d : ℤ) → ¬ (d ≡ pos 0) → n ≢ pos 0 → ¬ (fraction n d ≡ number_zero)
 value_nonzero n d s h e =
     let c = fraction-cross n d (pos 0) (pos 1) s one_above (e ∙ sym (fraction-zero (pos 1) one_above)) in
-    h (sym (one_right n) ∙ c ∙ zero_times d)
+    h (sym (int_multiply_one n) ∙ c ∙ zero_times d)
   where
     zero_times : (d : ℤ) → pos 0 *ℤ d ≡ pos 0
     zero_times d = omega (arith, ints)
@@ -172,18 +159,15 @@ run Mul x y z f g t h =
     made z m.pair _ m.seen s.reduced (mul_value _ _ m.pair f.reduced g.reduced s ∙ ap₂ ◌*ε◌ (sym (shown x f)) (sym (shown y g)))
 run Div x y z f g t h =
     let m = mapped _ z h in
-    let n = not_zero _ (sym (zero_first y g) ∙ t) in
+    let n = is_zero_false _ (sym (zero_first y g) ∙ t) in
     let i = inverse_reduced _ g.reduced n in
     let s = mul_says _ _ m.pair f.reduced i m.is in
     made z m.pair _ m.seen s.reduced (div_value _ _ m.pair f.reduced g.reduced n (value_nonzero _ _ (some _ g.reduced) n) s
     ∙ ap₂ ◌/ε◌ (sym (shown x f)) (sym (shown y g)))
 
-lowest_single : (n : ℤ) → lowest (n ∷ []) ≡ n
-lowest_single n = lowest-constant n
-
 sign_first : (x : Parts) → IsFraction x → sign_of x ≡ int_sign (pair_of x).num
 unfolding sign_of
-sign_first x f = ap sign_of f.shape ∙ ap int_sign (lowest_single (pair_of x).num)
+sign_first x f = ap sign_of f.shape ∙ ap int_sign (lowest-constant (pair_of x).num)
 
 sign_is : (x : Parts) → IsFraction x → sign_of x ≡ number_sign (value_of x)
 sign_is x f = sign_first x f ∙ sym (ap number_sign (shown x f) ∙ fraction-sign _ _ (some _ f.reduced)
@@ -195,8 +179,8 @@ plain_is_exact = record {
   one_stored = record { reduced = one_reduced; shape = refl };
   zero_value = value_single _ ∙ fraction-zero (pos 1) one_above;
   one_value = value_single _ ∙ one_is;
-  nonzero = λ x f h e. value_nonzero _ _ (some _ f.reduced) (not_zero _ (sym (zero_first x f) ∙ h)) (sym (shown x f) ∙ e);
-  is_null = λ x f h. shown x f ∙ ap (λ n. fraction n (pair_of x).den) (integer_zero _ (sym (zero_first x f) ∙ h)) ∙ fraction-zero _ (some _ f.reduced);
+  nonzero = λ x f h e. value_nonzero _ _ (some _ f.reduced) (is_zero_false _ (sym (zero_first x f) ∙ h)) (sym (shown x f) ∙ e);
+  is_null = λ x f h. shown x f ∙ ap (λ n. fraction n (pair_of x).den) (is_zero_true _ (sym (zero_first x f) ∙ h)) ∙ fraction-zero _ (some _ f.reduced);
   stored = λ op x y z f g t h. (run op x y z f g t h).stored;
   exact = λ op x y z f g t h. (run op x y z f g t h).value;
   compare = λ x y f g. sym (ap₂ number_compare (shown x f) (shown y g) ∙ fraction-compare _ _ _ _ f.reduced.positive g.reduced.positive);

@@ -1,7 +1,6 @@
 -- A row has exact quotients by 1, and they are its own polynomials.
 use Rattle.std.proofs.Common.{◌≡◌, ℕ, zero, suc, ◌+◌, ◌-◌, ◌<◌, ◌≤◌, List, refl, ◌∙◌, ap, arith, ℤ, pos, ◌+ℤ◌}
 use Rattle.std.proofs.Common.{◌*ℤ◌, Some}
-use lib.IntN.{*ℤ-zero}
 use Rattle.std.proofs.lemmas.Int.{ints}
 use Rattle.field_core.specs.Polynomial.{coefficient}
 use Rattle.field_core.specs.Laws.Integers.{int_multiply_one}
@@ -22,18 +21,16 @@ use Rattle.row_removal.specs.StoredRow.{StoredRow, numerator_at, IsProperRow}
 use Rattle.row_removal.specs.Clearing.{quotient_row, divided_row}
 use Rattle.row_removal.specs.Laws.ClearingLaws.{numerator_is}
 use Rattle.row_removal.specs.Laws.Together.{from_given}
+use Rattle.eps_poly.proofs.QuotientLaws.{product_zero}
 
 apart : (k n : ℕ) → n < k → ¬ (k - n ≡ 0)
 apart k n h e = omega arith
-
-nothing : (x y : ℤ) → y ≡ pos 0 → x *ℤ y ≡ pos 0
-nothing x y e = rw e (*ℤ-zero x)
 
 -- the parts of a coefficient before the last are 0
 before : (p : List ℤ) (k n : ℕ) → n ≤ k → written_coefficient p one_polynomial k n ≡ Some (pos 0)
 before p k zero h = coefficient_none p one_polynomial k
 before p k (suc n) h =
-    coefficient_zero p one_polynomial k n (nothing (coefficient p n) _ (monomial-other (pos 1) 0 (k - n) (apart k n (omega arith))))
+    coefficient_zero p one_polynomial k n (product_zero (coefficient p n) _ (monomial-other (pos 1) 0 (k - n) (apart k n (omega arith))))
     ∙ before p k n (omega arith)
 
 own : (p : List ℤ) (k : ℕ) → coefficient p k *ℤ coefficient one_polynomial (k - k) ≡ coefficient p k

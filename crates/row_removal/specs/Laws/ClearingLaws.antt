@@ -12,7 +12,7 @@ use Rattle.std.proofs.lemmas.Nat.Gcd.{dvd_trans, dvd_refl, le_of_dvd}
 use Rattle.std.proofs.Math.Nat.{min-le_left, min-le_right, pos_of_dvd_of_pos}
 use Rattle.field_core.specs.Polynomial.{Same, poly_multiply, lowest, IsNonZero}
 use Rattle.field_core.specs.Divisor.{gcd}
-use Rattle.field_core.specs.Laws.PolynomialLaws.{multiply_comm, lowest-same, lowest-multiply}
+use Rattle.field_core.specs.Laws.PolynomialLaws.{multiply_comm, lowest-same, lowest-multiply, same_sym}
 use Rattle.field_core.proofs.Divisors.{gcd_is}
 use Rattle.eps_poly.specs.ExactQuotients.{exact_quotient}
 use Rattle.eps_poly.specs.Polynomials.{IsPolynomial, monomial, zero_polynomial}
@@ -22,14 +22,14 @@ use Rattle.eps_poly.proofs.ExactLaws.{quotient_found, length-quotient, factor_po
 use Rattle.eps_poly.proofs.FactorLaws.{lowered_factors, core_is}
 use Rattle.eps_poly.proofs.OrderLaws.{lowest_from_coefficient}
 use Rattle.eps_poly.proofs.ProductLaws.{product_is_exact}
-use Rattle.eps_poly.proofs.SizedLists.{bind_some}
 use Rattle.eps_poly.proofs.Validity.{lowered_same, lowered_valid}
 use Rattle.eps_quotient.specs.Laws.Cuts.{order_within, monomial_some}
 use Rattle.eps_quotient.specs.Laws.Multiples.{monomial-multiply}
-use Rattle.eps_quotient.specs.Laws.QuotientLaws.{same_sym, same_trans, quotient-cancel}
+use Rattle.eps_quotient.specs.Laws.QuotientLaws.{same_trans, quotient-cancel}
 use Rattle.row_removal.specs.StoredRow.{StoredRow, numerator_at, row_value, IsProperRow}
 use Rattle.row_removal.specs.Clearing.{map_all, quotient_row, divided_row, row_content, row_order, row_by, lowered_row, cleared}
 use Rattle.row_removal.specs.Laws.Together.{AreGiven, all_given}
+use Rattle.field_core.proofs.Results.{bind_some, same_some}
 
 -- A proper row with the values of another.
 pub record HasValues (m : ℕ) (r t : StoredRow) : Type 0 where
@@ -82,9 +82,6 @@ is_quotient by p q some e =
       held = factor_polynomial p by q some (length-quotient p by q e) t;
     }
 
-some_same : {A : Type 0} (x y : A) → Some x ≡ Some y → x ≡ y
-some_same x y h = cc
-
 -- the polynomials of the row of exact quotients
 record IsQuotientRow (by : List ℤ) (r t : StoredRow) : Type 0 where
   pub denominator : exact_quotient r.denominator by ≡ Some t.denominator
@@ -95,7 +92,7 @@ unfolding quotient_row
 is_quotient_row by r t h =
     let a = bind_some (exact_quotient r.denominator by) _ t h in
     let b = bind_some (map_all (λ p. exact_quotient p by) r.numerators) _ t a.2 in
-    let e = some_same _ t b.2 in
+    let e = same_some _ t b.2 in
     subst (IsQuotientRow by r) e (record { denominator = a.1; numerators = all_given (λ p. exact_quotient p by) r.numerators b.0 b.1 })
 
 quotient_values : (m : ℕ) (by : List ℤ) (r t : StoredRow) → IsNonZero by → IsProperRow m r → quotient_row by r ≡ Some t → HasValues m r t
@@ -126,9 +123,6 @@ content_each : (c : ℕ) (ps : List (List ℤ)) (k : ℕ) → k < length ps → 
 content_each c [] k h = absurd (omega arith)
 content_each c (p ∷ ps) zero h = dvd_trans _ (content_first (gcd c (content p)) ps) (gcd_is c (content p)).1
 content_each c (p ∷ ps) (suc k) h = content_each (gcd c (content p)) ps k (omega arith)
-
-pub one_first : (n : ℕ) → gcd 1 n ≡ 1
-one_first n = let most = le_of_dvd (omega arith) (gcd_is 1 n).0 in let least = pos_of_dvd_of_pos (gcd_is 1 n).0 (omega arith) in omega arith
 
 order_first : (c : ℕ) (ps : List (List ℤ)) → fold (λ k p. min k (order p)) c ps ≤ c
 order_first c [] = omega arith

@@ -23,14 +23,12 @@ use Rattle.field_core.specs.Sized.{sized, gcd_of}
 use Rattle.field_core.specs.Steps.{at, each_below, ◌>>=◌}
 use Rattle.removal.specs.StoredGraph.{StoredGraph, size, weight, edge}
 use Rattle.removal.specs.ByValue.{AreStored}
-use Rattle.removal.proofs.Loops.{last}
 use Rattle.field_core.specs.Laws.Prefixes.{bind_ok, at_ok, ok_same, each_length, each_get}
 use Rattle.eps_poly.specs.Polynomials.{IsPolynomial, IsConstant, zero_polynomial, monomial}
 use Rattle.eps_poly.specs.Factors.{from_factors}
 use Rattle.eps_poly.specs.Written.{sized_product}
-use Rattle.field_core.proofs.Wholes.{quotient_times, size_quotient}
+use Rattle.field_core.proofs.Wholes.{quotient_times, size_quotient, positive_is, size_positive}
 use Rattle.eps_poly.proofs.ProductLaws.{product_is_exact, product_polynomial}
-use Rattle.eps_poly.proofs.SumLaws.{sized_inside}
 use Rattle.eps_poly.proofs.Validity.{zero_valid}
 use Rattle.eps_quotient.specs.Lowering.{one_polynomial}
 use Rattle.eps_quotient.specs.Quotients.{quotients}
@@ -45,6 +43,8 @@ use Rattle.row_removal.specs.StoredRow.{StoredRow, zero_row, numerator_at, row_v
 use Rattle.row_removal.specs.StoredRows.{StoredRows, row_at}
 use Rattle.row_removal.specs.Proper.{AreProperRows}
 use Rattle.row_removal.specs.Gathering.{HasConstants, place_of, given, given_below, with_denominator, common_below, gathered_numerator, gathered_row, gathered}
+use Rattle.field_core.proofs.Sized.{sized_says}
+use Rattle.field_core.proofs.Positions.{at_or_below}
 
 -- ---- constants
 
@@ -53,12 +53,6 @@ pub below_positive : (x : Parts) → IsQuotient x → IsConstant x.denominator �
 below_positive x s h =
     positive_out (coefficient x.denominator 0)
     (ap int_sign (sym (lowest-same x.denominator _ (constant_same x.denominator h) ∙ lowest-constant (coefficient x.denominator 0))) ∙ s.positive)
-
-up_is : (z : ℤ) → pos 0 <ℤ z → z ≡ pos (unsigned_abs z)
-up_is z h = omega (arith, ints)
-
-size_above : (z : ℤ) → pos 0 <ℤ z → 0 < unsigned_abs z
-size_above z h = omega (arith, ints)
 
 -- an exact quotient of positive numbers is positive
 over_positive : (c : ℤ) (g : ℕ) → pos 0 <ℤ c → 0 < g → g ∣ unsigned_abs c → pos 0 <ℤ int_div c (pos g)
@@ -92,7 +86,7 @@ next_is c d h i = record {
     g = gcd a b
 
     some : 0 < g
-    some = (gcd_bounds a b (size_above d i)).0
+    some = (gcd_bounds a b (size_positive d i)).0
 
     size : unsigned_abs (int_div c (pos g) *ℤ d) ≡ (a / g) * b
     size = unsigned_abs-mul (int_div c (pos g)) d ∙ ap (λ n. n * b) (size_quotient c g)
@@ -134,15 +128,15 @@ module _ (G : StoredGraph) (row : Option ℕ) (m : ℕ) (held : (k : ℕ) → k 
     | inl z ↦ subst (IsCommon (suc n)) (ok_same _ b c (with_none n b z) h) (record {
       positive = B.positive;
       small = B.small;
-      divides = λ k u e. elim (last k n u) [ inl q ↦ absurd (cc) | inr q ↦ B.divides k q e ];
+      divides = λ k u e. elim (at_or_below k n u) [ inl q ↦ absurd (cc) | inr q ↦ B.divides k q e ];
     })
     | inr z ↦
-        let s = sized_inside _ c (at_ok _ _ _ c (sym (with_some n b z) ∙ h)) in
+        let s = sized_says _ c (at_ok _ _ _ c (sym (with_some n b z) ∙ h)) in
         let N = next_is b (given_below G row n) B.positive (d_positive n i) in
         record {
           positive = subst (λ x. pos 0 <ℤ x) (sym s.0) N.positive;
           small = s.1;
-          divides = λ k u e. elim (last k n u) [
+          divides = λ k u e. elim (at_or_below k n u) [
             | inl q ↦ subst (λ x. unsigned_abs (given_below G row k) ∣ unsigned_abs x) (sym s.0) (rw q N.new)
             | inr q ↦ subst (λ x. unsigned_abs (given_below G row k) ∣ unsigned_abs x) (sym s.0) (dvd_trans _ (B.divides k q e) N.old)
           ];
@@ -166,7 +160,7 @@ module _ (G : StoredGraph) (row : Option ℕ) (m : ℕ) (held : (k : ℕ) → k 
     factor_times : (k : ℕ) → k < m → is_zero (given G row k) ≡ false → factor k *ℤ given_below G row k ≡ c
     unfolding factor
     factor_times k h z =
-        let e = up_is (given_below G row k) (d_positive k h) in
+        let e = positive_is (given_below G row k) (d_positive k h) in
         ap (λ d. int_div c d *ℤ d) e ∙ quotient_times c (unsigned_abs (given_below G row k)) (C.divides k h z)
 
     factor_some : (k : ℕ) → k < m → is_zero (given G row k) ≡ false → factor k ≢ pos 0

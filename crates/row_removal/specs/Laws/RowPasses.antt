@@ -13,7 +13,7 @@ use Rattle.field_core.specs.Kind.{is_zero_integer}
 use Rattle.field_core.specs.Number.{Number}
 use Rattle.field_core.specs.Arithmetic.{number_zero, number_one, ◌+ε◌, ◌-ε◌, ◌*ε◌, ◌/ε◌}
 use Rattle.field_core.specs.Fractions.{quotient}
-use Rattle.field_core.specs.Laws.PolynomialLaws.{nonzero-multiply}
+use Rattle.field_core.specs.Laws.PolynomialLaws.{nonzero-multiply, same_sym}
 use Rattle.field_core.specs.Polynomial.{lowest, Same, poly_add, poly_negate, IsNonZero}
 use Rattle.field_core.specs.Steps.{at, each_below, ◌>>=◌}
 use Rattle.removal.specs.WrittenRemoval.{is_gone}
@@ -24,7 +24,7 @@ use Rattle.eps_poly.proofs.Coefficients.{length-negate}
 use Rattle.eps_poly.proofs.SumLaws.{sum_polynomial, sum_is_exact}
 use Rattle.eps_poly.proofs.ProductLaws.{product_polynomial, product_is_exact}
 use Rattle.eps_poly.proofs.Validity.{zero_valid}
-use Rattle.eps_quotient.specs.Laws.QuotientLaws.{same_sym, same_nonzero, zero_value}
+use Rattle.eps_quotient.specs.Laws.QuotientLaws.{same_nonzero, zero_value}
 use Rattle.eps_quotient.specs.Laws.LowerLaws.{zeros_lowest, others_lowest, zero_lowest, one_some, one_held}
 use Rattle.eps_quotient.specs.Lowering.{one_polynomial}
 use Rattle.row_removal.specs.StoredRow.{StoredRow, zero_row, numerator_at, row_value, IsProperRow}

@@ -2,9 +2,7 @@
 use Rattle.std.proofs.Common.{◌≡◌, ℕ, zero, suc, ◌<◌, List, [], ◌∷◌, length, get_or, refl, ap, subst, arith, Option, Some, None}
 use Rattle.field_core.specs.Sized.{◌>>=◌}
 use Rattle.row_removal.specs.Clearing.{map_all}
-
-some_same : {A : Type 0} (x y : A) → Some x ≡ Some y → x ≡ y
-some_same x y h = cc
+use Rattle.field_core.proofs.Results.{same_some}
 
 module _ {A B : Type 0} (f : A → Option B) where
   -- each item gives the item at its place
@@ -28,11 +26,11 @@ module _ {A B : Type 0} (f : A → Option B) where
           → AreGiven (x ∷ xs) ys
       go None e b g h = absurd (cc)
       go (Some y) e None g h = absurd (cc)
-      go (Some y) e (Some zs) g h = subst (AreGiven (x ∷ xs)) (some_same (y ∷ zs) ys h) (given_more x xs y zs e (rest zs g))
+      go (Some y) e (Some zs) g h = subst (AreGiven (x ∷ xs)) (same_some (y ∷ zs) ys h) (given_more x xs y zs e (rest zs g))
 
   pub all_given : (xs : List A) (ys : List B) → map_all f xs ≡ Some ys → AreGiven xs ys
   unfolding map_all
-  all_given [] ys h = subst (AreGiven []) (some_same [] ys h) (record { count = refl; each = λ k d e i. absurd (omega arith) })
+  all_given [] ys h = subst (AreGiven []) (same_some [] ys h) (record { count = refl; each = λ k d e i. absurd (omega arith) })
   all_given (x ∷ xs) ys h = given_by x xs ys (λ zs g. all_given xs zs g) h
 
   pub from_given : (d : A) (e : B) (xs : List A) (ys : List B) → length ys ≡ length xs

@@ -2,8 +2,9 @@ use Rattle.std.proofs.Common.{◌≡◌, ℕ, List, [], ◌∷◌, map, sym, ap,
 use Rattle.fraction.specs.Tests.{is_zero}
 use Rattle.field_core.specs.View.{terms}
 use Rattle.case_model.proofs.Same.{terms_at-map}
-use Rattle.edge_expression.proofs.PrintedTerms.{IsPrinted, nothing_printed, next_zero, next_some, begun_some, end_none, end_some, on_err, on_ok}
+use Rattle.edge_expression.proofs.PrintedTerms.{IsPrinted, nothing_printed, next_zero, next_some, begun_some, end_none, end_some}
 use Rattle.edge_expression.proofs.printing.print_entry.Goals as goal
+use Rattle.field_core.proofs.Results.{on_ok, on_err}
 
 pub loop-power-init : goal.loop-power-init
 loop-power-init c = nothing_printed c.args.out.now (map terms c.args.entry.now)

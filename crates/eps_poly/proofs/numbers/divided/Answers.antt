@@ -2,8 +2,8 @@ use Rattle.std.proofs.Common.{FitsSigned, rules, ◌≡◌, ◌∙◌, sym, ap, 
 use Rattle.std.specs.Int.{w128}
 use Rattle.std.proofs.lemmas.Int.{to_z-of_z}
 use Rattle.eps_poly.proofs.IntegerQuotients.{int_div_exact, int_rem_exact, no_remainder}
-use Rattle.eps_poly.proofs.QuotientLaws.{some_inside}
 use Rattle.eps_poly.proofs.numbers.divided.Goals as goal
+use Rattle.field_core.proofs.Results.{same_some}
 
 pub returns-then-over-under-eq0 : goal.returns-then-over-under-eq0
 returns-then-over-under-eq0 c x =
@@ -16,7 +16,7 @@ returns-then-over-under-eq0 c x =
     let rest : int_rem c.value-over.result c.value-under.result ≡ pos 0 = sym (to_z-of_z w128 _ g) ∙ ap (to_z w128) none in
     let found : c.new.result *ℤ c.args.by ≡ c.args.product =
     rw (is, ← c.value-under.ensures.value) (no_remainder c.value-over.result c.value-under.result rest ∙ c.value-over.ensures.value) in
-    let forward : Some c.new.result ≡ Some x → x *ℤ c.args.by ≡ c.args.product = λ e. rw (← some_inside c.new.result x e) found in
+    let forward : Some c.new.result ≡ Some x → x *ℤ c.args.by ≡ c.args.product = λ e. rw (← same_some c.new.result x e) found in
     let back : x *ℤ c.args.by ≡ c.args.product → Some c.new.result ≡ Some x =
     λ e. ap Some (is ∙ rw (c.value-over.ensures.value, c.value-under.ensures.value, ← e) (int_div_exact x c.args.by c.requires)) in
     (forward, back)

@@ -1,8 +1,9 @@
 use Rattle.std.proofs.Common.{◌≡◌, ◌+◌, ◌∙◌, sym, ap, ap₂, ◌*ℤ◌, ◌+ℤ◌, neg_ℤ, Some, None}
 use Rattle.field_core.specs.Polynomial.{coefficient}
 use Rattle.field_core.specs.Sized.{sized}
-use Rattle.eps_poly.proofs.QuotientLaws.{next_step, divisor_some, some_inside}
+use Rattle.eps_poly.proofs.QuotientLaws.{next_step, divisor_some}
 use Rattle.eps_poly.proofs.quotients.next.Goals as goal
+use Rattle.field_core.proofs.Results.{same_some}
 
 pub returns-in_err-part : goal.returns-in_err-part
 returns-in_err-part c q e same =
@@ -21,7 +22,7 @@ returns-in_err-rest c q e same =
     let at = c.args.power + c.args.low in
     let s = next_step p by q c.args.known.now c.args.power c.args.low e c.requires.low c.requires.power same in
     let found : c.part_of_product.result ≡ Some s.part = c.part_of_product.ensures ∙ s.known_part in
-    let part : c.in_ok-part.part ≡ s.part = some_inside _ _ (sym c.in_ok-part.was ∙ found) in
+    let part : c.in_ok-part.part ≡ s.part = same_some _ _ (sym c.in_ok-part.was ∙ found) in
     let sum : c.checked_add.result ≡ sized (coefficient p at +ℤ neg_ℤ s.part) = c.checked_add.ensures
     ∙ ap₂ (λ a b. sized (a +ℤ b)) c.whole.ensures (c.negated.ensures ∙ ap neg_ℤ part) in
     let rest : c.checked_add.result ≡ Some (coefficient q c.args.power *ℤ coefficient by c.args.low) = sum ∙ s.rest in
@@ -39,9 +40,9 @@ returns c q e same =
     let at = c.args.power + c.args.low in
     let s = next_step p by q c.args.known.now c.args.power c.args.low e c.requires.low c.requires.power same in
     let found : c.part_of_product.result ≡ Some s.part = c.part_of_product.ensures ∙ s.known_part in
-    let part : c.in_ok-part.part ≡ s.part = some_inside _ _ (sym c.in_ok-part.was ∙ found) in
+    let part : c.in_ok-part.part ≡ s.part = same_some _ _ (sym c.in_ok-part.was ∙ found) in
     let sum : c.checked_add.result ≡ sized (coefficient p at +ℤ neg_ℤ s.part) = c.checked_add.ensures
     ∙ ap₂ (λ a b. sized (a +ℤ b)) c.whole.ensures (c.negated.ensures ∙ ap neg_ℤ part) in
     let rest : c.checked_add.result ≡ Some (coefficient q c.args.power *ℤ coefficient by c.args.low) = sum ∙ s.rest in
-    let product : c.in_ok-rest.rest ≡ coefficient q c.args.power *ℤ coefficient by c.args.low = some_inside _ _ (sym c.in_ok-rest.was ∙ rest) in
+    let product : c.in_ok-rest.rest ≡ coefficient q c.args.power *ℤ coefficient by c.args.low = same_some _ _ (sym c.in_ok-rest.was ∙ rest) in
     (c.divided.ensures (coefficient q c.args.power)).1 (ap (λ x. coefficient q c.args.power *ℤ x) c.whole-2.ensures ∙ sym product)

@@ -2,9 +2,10 @@ use Rattle.std.proofs.Common.{◌≡◌, refl, arith, Bool, true, false, ◌&&�
 use Rattle.field_core.specs.Polynomial.{coefficient}
 use Rattle.eps_poly.proofs.Coefficients.{filled_none, filled_more}
 use Rattle.eps_poly.proofs.DegreeLaws.{degree_at_least}
-use Rattle.eps_poly.proofs.QuotientLaws.{divisor_some, quotient_known, some_inside}
+use Rattle.eps_poly.proofs.QuotientLaws.{divisor_some, quotient_known}
 use Rattle.eps_poly.proofs.Validity.{set_short, zero_short}
 use Rattle.eps_poly.proofs.quotients.write_candidate.Goals as goal
+use Rattle.field_core.proofs.Results.{same_some}
 
 pub loop-power-init : goal.loop-power-init
 loop-power-init c = record {
@@ -29,7 +30,7 @@ loop-power-preserved c =
     let more = c.loop-power-test.true in
     rw c.put.ensures record {
       filled = filled_more _ _ _ _ (omega arith) c.loop-power.invariant.filled
-          (λ q e. some_inside _ _ (c.in_ok-c.ensures q e (λ k h. c.loop-power.invariant.filled.front k h q e)));
+          (λ q e. same_some _ _ (c.in_ok-c.ensures q e (λ k h. c.loop-power.invariant.filled.front k h q e)));
       known = λ e. let h = both c.loop-power.are_short _ e in
           set_short _ c.loop-power.power c.in_ok-c.c (c.loop-power.invariant.known h.0) (omega (arith, c.loop-power.invariant.filled.count))
           (c.is_short-are_short-in-loop-power.ensures.0 h.1);

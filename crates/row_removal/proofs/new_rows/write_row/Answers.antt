@@ -1,6 +1,5 @@
 use Rattle.std.proofs.Common.{arith, sym, ◌∙◌}
 use Rattle.std.proofs.lemmas.List.{with_items_is}
-use Rattle.row_removal.specs.Laws.ClearingLaws.{core_some}
 use Rattle.row_removal.proofs.WrittenRows.{row_written}
 use Rattle.row_removal.proofs.new_rows.write_row.Goals as goal
 
@@ -9,8 +8,3 @@ clear-requires-clause-proper c =
     rw (with_items_is c.next.inside.numerators c.write_numerators.new.next (omega (arith, c.write_numerators.auto.next, c.deref_mut.ensures.len)))
     (row_written c.args.graph.now c.args.j c.requires.proper c.requires.j c.args.l _ _ c.requires.l c.in_ok-write_denominator.ensures
     (sym c.is_zero.ensures.value ∙ c.if-is_zero.false) c.in_ok-write_numerators.ensures)
-
-pub clear-requires-clause-some : goal.clear-requires-clause-some
-clear-requires-clause-some c =
-    let P = c.requires.proper in
-    rw c.requires.divisor (core_some c.args.graph.now.last P.last P.last_some)

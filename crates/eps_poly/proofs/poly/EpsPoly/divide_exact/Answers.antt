@@ -1,8 +1,8 @@
 use Rattle.std.proofs.Common.{◌≡◌, ◌∙◌, sym, List, ℤ, Some, None}
 use Rattle.eps_poly.specs.Written.{sized_product}
 use Rattle.eps_poly.proofs.ExactLaws.{quotient_found, quotient_same}
-use Rattle.eps_poly.proofs.QuotientLaws.{some_inside}
 use Rattle.eps_poly.proofs.poly.EpsPoly.divide_exact.Goals as goal
+use Rattle.field_core.proofs.Results.{same_some}
 
 pub returns-in_err-put_quotient-clause-value : goal.returns-in_err-put_quotient-clause-value
 returns-in_err-put_quotient-clause-value c = c.from_residual.ensures ∙ c.in_err-put_quotient.ensures
@@ -25,4 +25,4 @@ returns-clause-found c = quotient_found c.args.self.now c.args.by.now c.put_quot
 pub returns-clause-only : goal.returns-clause-only
 returns-clause-only c q e =
     let (r, found, same) = quotient_same c.args.self.now c.args.by.now q c.requires e in
-    rw (some_inside _ _ (c.in_ok-put_quotient.ensures ∙ found)) same
+    rw (same_some _ _ (c.in_ok-put_quotient.ensures ∙ found)) same

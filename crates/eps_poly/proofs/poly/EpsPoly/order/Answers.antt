@@ -1,10 +1,10 @@
 use Rattle.std.proofs.Common.{◌≡◌, ◌∙◌, ℕ, sym, pos, arith, inl, inr}
 use Rattle.std.proofs.lemmas.Bool.{cases_eq, cases_lt}
 use Rattle.field_core.specs.Polynomial.{coefficient}
-use Rattle.eps_poly.proofs.Coefficients.{is_zero_true, is_zero_false}
 use Rattle.eps_poly.proofs.DegreeLaws.{coefficient-above}
 use Rattle.eps_poly.proofs.OrderLaws.{order_is, order_none}
 use Rattle.eps_poly.proofs.poly.EpsPoly.order.Goals as goal
+use Rattle.field_core.proofs.Wholes.{is_zero_true, is_zero_false}
 
 pub loop-power-init : goal.loop-power-init
 loop-power-init c k h = absurd (omega arith)

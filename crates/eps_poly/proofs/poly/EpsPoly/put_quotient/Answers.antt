@@ -3,8 +3,8 @@ use Rattle.eps_poly.specs.Written.{sized_product}
 use Rattle.eps_poly.proofs.Coefficients.{same_from, other_from}
 use Rattle.eps_poly.proofs.ExactLaws.{quotient_none, quotient_of_zero, quotient_only}
 use Rattle.eps_poly.proofs.ProductLaws.{product-same}
-use Rattle.eps_poly.proofs.QuotientLaws.{some_inside}
 use Rattle.eps_poly.proofs.poly.EpsPoly.put_quotient.Goals as goal
+use Rattle.field_core.proofs.Results.{same_some}
 
 pub returns-then-is_zero : goal.returns-then-is_zero
 returns-then-is_zero c = ap Some c.clear.ensures ∙ sym (quotient_of_zero c.args.p.now c.args.by.now c.requires c.used.ensures.polynomial
@@ -32,7 +32,7 @@ not_same : (c : goal.Else-eq) (q : List ℤ) → sized_product q c.args.by.now �
 not_same c q e =
     let known : Some c.write_product.new.self ≡ Some c.args.p.now = c.in_ok-write_product.ensures
     ∙ product-same c.write_candidate.new.quotient q c.args.by.now (c.in_ok-write_candidate.ensures.only q e) ∙ e in
-    other_from c.write_product.new.self c.args.p.now (sym c.eq.ensures ∙ c.if-eq.false) (some_inside _ _ known)
+    other_from c.write_product.new.self c.args.p.now (sym c.eq.ensures ∙ c.if-eq.false) (same_some _ _ known)
 
 pub returns-else-eq : goal.returns-else-eq
 returns-else-eq c = sym (quotient_none c.args.p.now c.args.by.now (not_same c))

@@ -1,9 +1,10 @@
 use Rattle.std.proofs.Common.{◌≡◌, ◌≢◌, ◌-◌, ◌∙◌, sym, set, pos, arith, inl, inr}
 use Rattle.std.proofs.lemmas.Bool.{cases_eq}
 use Rattle.field_core.specs.Polynomial.{coefficient}
-use Rattle.eps_poly.proofs.Coefficients.{coefficient-set_other, is_zero_true, is_zero_false}
+use Rattle.eps_poly.proofs.Coefficients.{coefficient-set_other}
 use Rattle.eps_poly.proofs.DegreeLaws.{coefficient-above, count_is, count_kept, count_none, count_put}
 use Rattle.eps_poly.proofs.poly.EpsPoly.used_with.Goals as goal
+use Rattle.field_core.proofs.Wholes.{is_zero_true, is_zero_false}
 
 pub loop-at-init : goal.loop-at-init
 loop-at-init c k h =

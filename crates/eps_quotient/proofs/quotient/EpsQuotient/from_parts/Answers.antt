@@ -7,10 +7,10 @@ use Rattle.field_core.specs.View.{terms}
 use Rattle.eps_quotient.specs.Polynomials.{sum_from, written_polynomial}
 use Rattle.eps_quotient.specs.Quotients.{written_sum}
 use Rattle.eps_quotient.specs.View.{quotient_parts}
-use Rattle.eps_poly.proofs.Coefficients.{is_zero_true}
 use Rattle.eps_quotient.proofs.Constants.{polynomial_constant}
 use Rattle.eps_quotient.proofs.TermLaws.{sum_end, sum_next, sum_stays, sum_stops, five_value, all_ratios, kept, refused}
 use Rattle.eps_quotient.proofs.quotient.EpsQuotient.from_parts.Goals as goal
+use Rattle.field_core.proofs.Wholes.{is_zero_true}
 
 pub loop-power-init : goal.loop-power-init
 loop-power-init c = ap (λ s. sum_from 0 s (map terms c.args.parts.now)) c.zero-sum.ensures

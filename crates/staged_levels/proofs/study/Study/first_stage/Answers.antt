@@ -9,9 +9,10 @@ use Rattle.field_core.proofs.Live.{true_not_false}
 use Rattle.staged_levels.specs.Studies.{IsFirstStageBy}
 use Rattle.staged_levels.specs.StudyContents.{MeetsAtStage}
 use Rattle.staged_levels.specs.StudyView.{study}
-use Rattle.staged_levels.proofs.AnyStudy.{any_stage, stage_cases}
+use Rattle.staged_levels.proofs.AnyStudy.{any_stage}
 use Rattle.staged_levels.proofs.StateFacts.{no_stage}
 use Rattle.staged_levels.proofs.study.Study.first_stage.Goals as goal
+use Rattle.std.proofs.lemmas.Bool.{cases_lt}
 
 pub returns-then-meets_at-clause-some : goal.returns-then-meets_at-clause-some
 unfolding study
@@ -20,7 +21,7 @@ returns-then-meets_at-clause-some c =
     let u = number_of c.present_weight-weight.result in
     let m = c.meets_at.ensures.0 c.if-meets_at.true in
     let up : (a : Arrival) → MeetsAt (spend_at s.spends) (number_of s.alpha) s.looks.values c.args.k u a
-    → c.loop-t.t + 1 ≤ a.stage = λ a q. elim (stage_cases a.stage (c.loop-t.t + 1)) [
+    → c.loop-t.t + 1 ≤ a.stage = λ a q. elim (cases_lt a.stage (c.loop-t.t + 1)) [
       | inl b ↦ absurd (c.loop-t.invariant a.stage (any_stage s c.args.self.now.whole c.args.k u a q) (omega (arith, b))
           (record { arrival = a; meets = q; stage = refl }))
       | inr n ↦ n
