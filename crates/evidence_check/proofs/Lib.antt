@@ -42,3 +42,4 @@ pub mod PrintedNumbers
 pub mod LineFaults
 pub mod Completions
 pub mod WrittenTexts
+pub mod DocumentForms

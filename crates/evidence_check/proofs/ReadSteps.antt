@@ -69,7 +69,7 @@ module _ (T : Frame) (js : List ℕ) (row : Row) (rest : Words) (step : words_be
 
 -- ---- all steps
 
-step_snoc : (js : List ℕ) (ss : List StepParts) (s : StepParts)
+pub step_snoc : (js : List ℕ) (ss : List StepParts) (s : StepParts)
     → step_forms js (ss ++ s ∷ []) ≡ step_forms js ss ++ step_forms (js ++ named ss) (s ∷ [])
 step_snoc js [] s = ap (λ is. step_forms is (s ∷ [])) (sym (append-nil js))
 step_snoc js (r ∷ ss) s =
@@ -160,7 +160,7 @@ pub exits_snoc : (m k : ℕ) (xs : List KeepParts) (x : KeepParts) → ExitsFit 
 exits_snoc m k [] x h f = (f, tt)
 exits_snoc m k (y ∷ xs) x h f = (h.0, exits_snoc m k xs x h.1 f)
 
-due_early : (T : Frame) (js ks : List ℕ) → is_ended (At (keeps_due T js ks) AtEnd) ≡ false
+pub due_early : (T : Frame) (js ks : List ℕ) → is_ended (At (keeps_due T js ks) AtEnd) ≡ false
 due_early T js [] = refl
 due_early T js (k ∷ ks) = refl
 

@@ -61,7 +61,7 @@ is_step (SaysNumber q c h x) = false
 is_step (SaysKeep h) = false
 is_step SaysEnd = false
 
-abbrev NoStep : Result Form ProofKind → Type 0
+abbrev pub NoStep : Result Form ProofKind → Type 0
 NoStep (Ok f) = is_step f ≡ false
 NoStep (Err kind) = Unit {0}
 
@@ -89,7 +89,7 @@ end_no : (ws : Words) → NoStep (end_line ws)
 unfolding end_line
 end_no ws = found_no (words_behind (codes "end") ws) Unexpected _ (λ rest. if_no (is_none rest) (Ok SaysEnd) WordCount refl)
 
-slot_no : (T : Frame) (s : Slot) (ws : Words) → NoStep (slot_line T s ws)
+pub slot_no : (T : Frame) (s : Slot) (ws : Words) → NoStep (slot_line T s ws)
 unfolding slot_line
 slot_no T (ANumber q c h) ws = number_no T q c h ws
 slot_no T (AKeep h) ws = keep_no T h ws

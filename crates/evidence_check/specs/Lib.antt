@@ -12,3 +12,5 @@ pub mod NumberTexts
 pub mod ReadView
 pub mod NumberReading
 pub mod DocumentStatements
+pub mod Document
+pub mod FormStatements

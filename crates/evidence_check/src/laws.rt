@@ -14,6 +14,7 @@ ghost use Rattle.evidence_check.specs.DocumentStatements.{CasesHaveFrames, Readi
 ghost use Rattle.evidence_check.specs.DocumentStatements.{LinesSayOneEvidence};
 ghost use Rattle.evidence_check.specs.DocumentStatements.{LinesSayTheirEvidence, StoredNumbersArePrinted, EvidenceTextsSayIt};
 ghost use Rattle.evidence_check.specs.DocumentStatements.{FaultsAreWhereNoneGoesOn, NoneGoesOnIsFault};
+ghost use Rattle.evidence_check.specs.FormStatements.{FormsReadAlike, FormsSayTheSame};
 
 use field_core::Number;
 
@@ -77,4 +78,11 @@ pub fn lines_say_their_evidence()
 pub fn first_faults_end_documents()
     ensures there { FaultsAreWhereNoneGoesOn }
     ensures line { NoneGoesOnIsFault }
+{}
+
+/// The form of documents is the language of evidence: lines say by the one what they denote by the other. Of each text both
+/// read the same, or the same first fault on the same line.
+pub fn documents_are_forms()
+    ensures read { FormsReadAlike }
+    ensures said { FormsSayTheSame }
 {}

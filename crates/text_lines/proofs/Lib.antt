@@ -2,6 +2,15 @@ pub mod Cut
 pub mod HandedOn
 pub mod Keywords
 pub mod Spelt
+pub mod FormReads
+pub mod FormEnds
+pub mod FormFaults
+pub mod FaultKinds
+pub mod EndRules
+pub mod Always
+pub mod FormLines
+pub mod LineRuns
+pub mod EachRuns
 pub mod LanguageLaws
 pub mod FormLaws
 pub mod Runs

@@ -1,7 +1,8 @@
 -- Languages of lines: a text is read line by line, from place to place.
-use Rattle.std.specs.Prelude.{◌≡◌, ℕ, List, [], ◌∷◌, ◌++◌, map, Result, Ok, Err}
+use Rattle.std.specs.Prelude.{◌≡◌, ℕ, List, [], ◌∷◌, ◌++◌, map, Result, Ok}
 use Rattle.field_core.specs.Answers.{and_then}
 use Rattle.text_lines.specs.Lines.{Row}
+pub use Rattle.text_lines.specs.Faults.{FaultAt, on_line}
 
 -- A language of lines has three parts. What it sees of the text of a line: the text itself, or its words. The place after a line at a place, or what
 -- is wrong with the line. What a text that ends at a place reads as, or what is wrong with that.
@@ -13,16 +14,6 @@ pub record Language (Line Place Said Kind : Type 0) : Type 0 where
 -- these rows as lines of the language
 abbrev pub lines_in : {Line Place Said Kind : Type 0} → Language Line Place Said Kind → List Row → List Line
 lines_in L rows = map (λ row. L.line_of row.text) rows
-
--- the number of a line, and what is wrong with it
-pub record FaultAt (Kind : Type 0) : Type 0 where
-  pub line : ℕ
-  pub kind : Kind
-
--- the same, on the line of this number
-abbrev pub on_line : {A Kind : Type 0} → ℕ → Result A Kind → Result A (FaultAt Kind)
-on_line number (Ok x) = Ok x
-on_line number (Err kind) = Err (record { line = number; kind = kind })
 
 -- what lines denote from a place on, or the first fault; `end` is the number of the line after the last one
 abbrev pub reading : {Line Place Said Kind : Type 0} → Language Line Place Said Kind → Place → List Row → ℕ → Result Said (FaultAt Kind)

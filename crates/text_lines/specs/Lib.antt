@@ -2,6 +2,11 @@ pub mod Lines
 pub mod View
 pub mod Words
 pub mod Spelling
+pub mod Faults
+pub mod Forms
+pub mod FormStatements
+pub mod Kinds
+pub mod Left
 pub mod Languages
 pub mod LanguageStatements
 pub mod FormLanguages
