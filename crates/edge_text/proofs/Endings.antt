@@ -58,10 +58,10 @@ choose false x y h k = k
 numeral_runs : (word : List ℕ) → Runs (numeral word)
 numeral_runs word = tell Number (numeral_of word) (λ f e. cc)
 
-number_runs : (words : Words) → Runs (number words)
+pub number_runs : (words : Words) → Runs (number words)
 number_runs words = found (only_word words) WordCount numeral (λ e. cc) numeral_runs
 
-numbers_run : (words : Words) → Runs (numbers words)
+pub numbers_run : (words : Words) → Runs (numbers words)
 numbers_run [] = fine []
 numbers_run (word ∷ words) = chain (numeral word) _ (numeral_runs word) (λ x. chain (numbers words) _ (numbers_run words) (λ xs. fine (x ∷ xs)))
 
@@ -69,10 +69,10 @@ some_run : (words : Words) → Runs (some_numbers words)
 some_run [] = other WordCount (λ e. cc)
 some_run (word ∷ words) = numbers_run (word ∷ words)
 
-given_run : (words : Words) → Runs (given words)
+pub given_run : (words : Words) → Runs (given words)
 given_run words = chain (some_numbers words) _ (some_run words) (λ xs. fine (map Some xs))
 
-edge_runs : (names : List (List ℕ)) (line : List ℕ) (words : Words) → Runs (edge names line words)
+pub edge_runs : (names : List (List ℕ)) (line : List ℕ) (words : Words) → Runs (edge names line words)
 edge_runs names line words =
     found (ends_of words) WordCount _ (λ e. cc)
     (λ ends. found (position_of ends.0 names) UnknownName _ (λ e. cc)
@@ -82,17 +82,17 @@ edge_runs names line words =
 whole_runs : (word : List ℕ) → Runs (whole word)
 whole_runs word = choose (is_whole word) _ _ (fine _) (other Whole (λ e. cc))
 
-count_runs : (words : Words) → Runs (count words)
+pub count_runs : (words : Words) → Runs (count words)
 count_runs words = found (only_word words) WordCount whole (λ e. cc) whole_runs
 
-shares_run : (name : List ℕ) (words : Words) → Runs (shares name words)
+pub shares_run : (name : List ℕ) (words : Words) → Runs (shares name words)
 shares_run name words = found (share_words words) WordCount _ (λ e. cc)
     (λ w. choose (bytes_eq w.0 name) (numbers w.1) (Err Unexpected) (numbers_run w.1) (other Unexpected (λ e. cc)))
 
-step_of_runs : (from : List ℕ) (levels : Words) → Runs (step_of from levels)
+pub step_of_runs : (from : List ℕ) (levels : Words) → Runs (step_of from levels)
 step_of_runs from levels = chain (numeral from) _ (numeral_runs from) (λ x. chain (numbers levels) _ (numbers_run levels) (λ xs. fine _))
 
-first_step_runs : (name : List ℕ) (words : Words) → Runs (first_step name words)
+pub first_step_runs : (name : List ℕ) (words : Words) → Runs (first_step name words)
 first_step_runs name words = found (step_words words) WordCount _ (λ e. cc)
     (λ w. choose (bytes_eq w.0 name) (step_of w.1 w.2) (Err Unexpected) (step_of_runs w.1 w.2) (other Unexpected (λ e. cc)))
 

@@ -1,8 +1,10 @@
 pub mod CanonicalStatements
 pub mod CanonicalText
+pub mod Document
 pub mod DocumentStatements
 pub mod Drafts
 pub mod Faults
+pub mod FormStatements
 pub mod Grammar
 pub mod Places
 pub mod Reading

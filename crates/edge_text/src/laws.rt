@@ -1,6 +1,7 @@
 //! Laws of texts: each denotes one draft, or has one first fault; and canonical texts denote their cases.
 ghost use Rattle.edge_text.specs.CanonicalStatements.{CanonicalTextsReadBack, CanonicalTextsTellCasesApart, CanonicalTextsAreCanonical};
 ghost use Rattle.edge_text.specs.DocumentStatements.{DocumentsAreSaid, SaidAreDocuments, TextsCanEnd};
+ghost use Rattle.edge_text.specs.FormStatements.{PlacesAreOfTheForm, TheFormIsTheGrammar, FaultsAreFirst, FirstFaultsEndTexts};
 ghost use Rattle.edge_text.specs.TextStatements.{TextsSayOneDraft, TextsHaveOneFault, TextsSayOrFail, TextsDontSayAndFail};
 ghost use Rattle.edge_text.specs.TextStatements.{FirstFaultsEndDocuments, WhereNoneGoesOnIsFault, UnfinishedTextsEnd};
 ghost use Rattle.edge_text.specs.TextStatements.{TextsHaveOneCase, TextsHaveOneRefusal, FaultsArentRefusals, CasesHaveNoFault};
@@ -36,6 +37,16 @@ pub fn documents_are_read_by_places()
     ensures said { DocumentsAreSaid }
     ensures only { SaidAreDocuments }
     ensures end { TextsCanEnd }
+{}
+
+/// A document is one form of lines. From place to place the same is read as by the form (`same`), and what lines say by the
+/// form is what they say by the grammar (`grammar`). The first fault is where no document continues (`fault`), and only a text
+/// that ends too early is reported as ended (`kind`).
+pub fn documents_are_one_form()
+    ensures same { PlacesAreOfTheForm }
+    ensures grammar { TheFormIsTheGrammar }
+    ensures fault { FaultsAreFirst }
+    ensures kind { FirstFaultsEndTexts }
 {}
 
 /// A text has one reading: one case by its content, or one first fault, or one refusal of its draft.

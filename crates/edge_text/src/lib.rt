@@ -9,6 +9,9 @@
 //!   - `documents_are_read_by_places`: the reader goes from place to place, one line at a time. The lines that it takes
 //!     are exactly the documents of the grammar, with the same drafts (`said`, `only`). Each unfinished text can end
 //!     (`end`).
+//!   - `documents_are_one_form`: a document is one value, the form of its lines (`specs/Document.antt`). It reads each text as
+//!     the places do (`same`), and says of lines what the grammar does (`grammar`). Its first fault is where no document
+//!     continues (`fault`), and only a text that ends too early is reported as ended (`kind`).
 //!   - A text denotes at most one draft and has at most one first fault. It has one of the two, never both.
 //!   - The first fault is exactly where no document continues.
 //!   - `canonical_texts_read_back`: the canonical text reads as the same case (`back`), distinguishes cases (`apart`), and is
