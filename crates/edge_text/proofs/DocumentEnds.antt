@@ -15,7 +15,6 @@ use Rattle.case_model.specs.declared.draft_component.DraftComponent.{DraftCompon
 use Rattle.case_model.specs.declared.draft_stages.DraftStages.{DraftStages}
 use Rattle.case_model.specs.declared.spend.Spend.{Spend}
 use Rattle.case_model.specs.declared.spend.Spend.TheVariants.{Shares, Table}
-use Rattle.text_lines.specs.Lines.{rows_of, end_of}
 use Rattle.text_lines.specs.Words.{words_of, words_behind}
 use Rattle.text_lines.proofs.Keywords.{keyword_found}
 use Rattle.edge_text.specs.declared.fault.LineKind.{LineKind}
@@ -23,12 +22,10 @@ use Rattle.edge_text.specs.Grammar.{Words, Says, one}
 use Rattle.edge_text.specs.WordReading.{number, numbers, given, count, shares, first_step, arrival}
 use Rattle.edge_text.proofs.Leaves.{number_said, given_said, shares_said, first_said}
 use Rattle.edge_text.proofs.NameWords.{IsNameWord, words_are, word_first, zero_line, zero_line_words}
-use Rattle.text_lines.specs.Forms.{Leaf, Say, Then, Many, Seen, Lacks, texts_seen}
+use Rattle.text_lines.specs.Forms.{Leaf, Say, Then, Many, Seen, Lacks}
 use Rattle.text_lines.specs.Kinds.{behind, more_lines, each_after}
 use Rattle.text_lines.proofs.FormEnds.{Whole, Leads, Can, can_say, can_then, can_may, can_many}
-use Rattle.text_lines.proofs.FormFaults.{faults_end, none_is_fault}
 use Rattle.edge_text.specs.Document.{Lines, edge_line, if_step, further_line, block, blocks, spend, stages, after_p, document, kinds}
-use Rattle.edge_text.specs.FormStatements.{FaultsAreFirst}
 use Rattle.text_lines.proofs.EndRules.{Example, can_line_then, can_more, can_either}
 
 abbrev Rows : Type 0
@@ -101,7 +98,7 @@ spend_line name h = example (codes "spend") (shares name) (zero_line name) (name
     (shares_said name (name ∷ codes "0" ∷ []) (zero_ratio ∷ [])
     (record { numerals = codes "0" ∷ []; words_are = refl; each = (zero_said, tt); some = omega arith }))
 
--- it is no step of a table
+-- its line is not a step of a table
 spend_apart : (name table : List ℕ) (h : IsNameWord name) → further_line table (spend_line name h).0.line ≡ None
 unfolding spend_line example
 spend_apart name table h = ap (λ ws. if_step table (words_behind (codes "table") ws)) (zero_line_words name h)
@@ -148,7 +145,7 @@ module _ (names : Words) where
       (can_then kinds (block names one) (λ k. Say (k ∷ [])) C (can_block one _ (λ k. (k ∷ [], [], (refl, refl), h (k ∷ []))))
       (λ k. can_say kinds (k ∷ []) C ([], h (k ∷ []))))
 
--- ---- stages: behind a table, nothing or another line
+-- ---- stages: a table is followed by nothing or by another line
 
 can_spend : (name : List ℕ) (C : Spend → Rows → Type 0) → IsNameWord name → ((x : Spend) → (rest : Rows) × C x rest × Lacks (further_line name) rest)
     → Can kinds (spend name) C
@@ -207,9 +204,3 @@ can_document =
     (example (codes "hypotheses") (λ words. Ok words) (codes "hypotheses") [] [] names_words refl) names_only (λ names w.
     can_either kinds (behind (codes "p") given) (after_p alpha names) (after_p alpha names []) Whole
     (example (codes "p") given (codes "p 0") (codes "0" ∷ []) (Some zero_ratio ∷ []) p_words zero_given) (λ p. can_after alpha names p w) (can_after alpha names [] w)))
-
-pub faults_first : FaultsAreFirst
-faults_first bytes = (
-  faults_end kinds document (texts_seen (rows_of bytes)) (end_of bytes) can_document,
-  none_is_fault kinds document (texts_seen (rows_of bytes)) (end_of bytes) can_document,
-)

@@ -6,19 +6,15 @@ use Rattle.std.specs.Str.{bytes_eq}
 use Rattle.field_core.specs.declared.ratio.Ratio.{Ratio}
 use Rattle.case_model.specs.declared.spend.Spend.{Spend}
 use Rattle.case_model.specs.declared.spend_step.SpendStep.{SpendStep}
-use Rattle.text_lines.specs.Lines.{rows_of, end_of}
 use Rattle.text_lines.specs.Words.{words_of, words_behind}
 use Rattle.edge_text.specs.declared.fault.LineKind.{LineKind}
 use Rattle.edge_text.specs.declared.fault.LineKind.TheVariants.{Ended}
 use Rattle.edge_text.specs.Grammar.{Words, one}
 use Rattle.edge_text.specs.WordReading.{number, numbers, given, edge, count, shares, first_step, step_of, step_words, arrival}
-use Rattle.text_lines.specs.Forms.{texts_seen}
 use Rattle.text_lines.specs.Kinds.{behind, each_after}
 use Rattle.edge_text.specs.Document.{if_named, if_step, further_line, edge_line, block, blocks, spend, stages, after_p, document, kinds}
-use Rattle.edge_text.specs.FormStatements.{FirstFaultsEndTexts}
-use Rattle.text_lines.proofs.FaultKinds.{LeafRuns, Runs, first_wrong, unfinished_end}
+use Rattle.text_lines.proofs.FaultKinds.{LeafRuns, Runs}
 use Rattle.edge_text.proofs.Endings.{Runs as Fine, number_runs, numbers_run, given_run, edge_runs, count_runs, shares_run, step_of_runs, first_step_runs, arrival_runs}
-use Rattle.edge_text.proofs.DocumentEnds.{can_document}
 
 some : {A : Type 0} (r : Result A LineKind) → Fine r → ◌≢◌ {A = Option (Result A LineKind)} (Some r) (Some (Err Ended))
 some r n e = n (let k : r ≡ Err Ended = cc in k)
@@ -78,7 +74,7 @@ stages_run names = (
 after_runs : (alpha : Ratio) (names : Words) (p : List (Option Ratio)) → Runs kinds (after_p alpha names p)
 after_runs alpha names p = (blocks_run names, (λ ks. (stages_run names, (λ s. tt))))
 
-document_runs : Runs kinds document
+pub document_runs : Runs kinds document
 document_runs = (
   key (codes "alpha") number number_runs,
   (λ alpha. (
@@ -86,10 +82,4 @@ document_runs = (
     (λ names.
         (key (codes "p") given given_run, (λ p. after_runs alpha names p), after_runs alpha names [])),
   )),
-)
-
-pub first_faults : FirstFaultsEndTexts
-first_faults bytes = (
-  first_wrong kinds (λ e. cc) document (texts_seen (rows_of bytes)) (end_of bytes) document_runs can_document,
-  unfinished_end kinds (λ e. cc) document (texts_seen (rows_of bytes)) (end_of bytes) can_document,
 )

@@ -1,4 +1,4 @@
--- Forms and what follows them, line by line.
+-- Forms and the answer to what they say, line by line.
 use Rattle.std.proofs.Common.{◌≡◌, ℕ, List, [], ◌∷◌, ◌++◌, Option, Some, None, Result, Ok, Err, refl, ap, ◌∙◌}
 use Rattle.std.specs.Option.{option_map}
 use Rattle.field_core.specs.Answers.{and_then}
@@ -9,7 +9,7 @@ use Rattle.text_lines.specs.Forms.{Leaf, Form, Say, Line, Then, May, Many, Kinds
 use Rattle.text_lines.specs.Kinds.{more_lines, behind as behind_leaf}
 use Rattle.text_lines.proofs.FormReads.{read_say, read_then}
 
--- what a line of a kind says goes on; or what is wrong with it; or a line of another kind
+-- The answer to what a line of a kind says; or what is wrong with the line; or, if it is of another kind, the other answer.
 abbrev pub picked : {K A B : Type 0} → ℕ → Option (Result A K) → (A → Result B (FaultAt K)) → Result B (FaultAt K) → Result B (FaultAt K)
 picked n (Some (Ok a)) f other = f a
 picked n (Some (Err k)) f other = Err (record { line = n; kind = k })
@@ -38,7 +38,7 @@ on_said {K} {A} {Next} {B} n keyword line says to other more = by (words_behind 
     by None = refl
 
 module _ {L K : Type 0} (U : Kinds K) where
-  -- what a form says and what is left go on
+  -- the answer to what a form says and to the lines that it leaves
   abbrev pub run : {A B : Type 0} → Form L K A → List (Seen L) → ℕ → (A → List (Seen L) → Result B (FaultAt K)) → Result B (FaultAt K)
   run {A} f rows end k = and_then {A = A × List (Seen L)} (read U f rows end) (λ p. k p.0 p.1)
 

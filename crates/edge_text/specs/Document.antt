@@ -1,5 +1,5 @@
 -- Texts of cases: a document as one value, the form of its lines.
-use Rattle.std.specs.Prelude.{ℕ, if◌then◌else◌, List, [], ◌∷◌, Option, Some, None, Result, Ok, Err, codes}
+use Rattle.std.specs.Prelude.{◌≡◌, ℕ, if◌then◌else◌, List, [], ◌∷◌, Option, Some, None, Result, Ok, Err, codes}
 use Rattle.std.specs.Str.{bytes_eq}
 use Rattle.field_core.specs.declared.ratio.Ratio.{Ratio}
 use Rattle.case_model.specs.declared.draft.Draft.{Draft}
@@ -97,3 +97,7 @@ kinds = record { unexpected = Unexpected; ended = Ended }
 -- what a text denotes, or its first fault
 abbrev pub text_reading : List ℕ → Result Draft (FaultAt LineKind)
 text_reading bytes = reading kinds document (texts_seen (rows_of bytes)) (end_of bytes)
+
+-- the lines of a text that aren't skipped are a document, and it denotes this draft
+abbrev pub IsText : List ℕ → Draft → Type 0
+IsText bytes draft = text_reading bytes ≡ Ok draft

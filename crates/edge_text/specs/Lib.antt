@@ -4,7 +4,6 @@ pub mod Document
 pub mod DocumentStatements
 pub mod Drafts
 pub mod Faults
-pub mod FormStatements
 pub mod Grammar
 pub mod Places
 pub mod Reading
