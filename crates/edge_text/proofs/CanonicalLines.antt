@@ -1,8 +1,9 @@
 -- The lines of canonical texts, and the document that they are.
 use Rattle.std.proofs.Common.{append-nil, ◌≡◌, ◌≢◌, refl, sym, ap, subst, ◌∙◌, ℕ, zero, suc, ◌+◌, ◌*◌, ◌/◌, ◌%◌, ◌<◌}
-use Rattle.std.proofs.Common.{◌≤◌, ◌==◌, inl, inr, List, [], ◌∷◌, ◌++◌, length, map, get_or, Bool, true, false, Some, arith}
+use Rattle.std.proofs.Common.{◌≤◌, ◌==◌, inl, inr, List, [], ◌∷◌, ◌++◌, length, map, get_or, Bool, true, false, Some, None, Result, Ok, arith}
 use Rattle.std.specs.Prelude.{codes, if◌then◌else◌}
 use Rattle.std.specs.List.{AllByRecursion, AllZip, flat_map, list_all, position_from}
+use Rattle.std.specs.Option.{option_map}
 use Rattle.std.specs.Str.{bytes_eq}
 use Rattle.std.proofs.lemmas.Bool.{cases_Bool}
 use Rattle.std.proofs.lemmas.Bool.Decides.{nat_tests}
@@ -15,17 +16,25 @@ use Rattle.case_model.specs.Names.{position_of}
 use Rattle.case_model.specs.ValidDraft.{Each, EachTwo}
 use Rattle.text_lines.specs.Spelling.{line_spelt, text_of, IsWord, IsLine, numbered}
 use Rattle.text_lines.specs.Lines.{rows_of, texts_in}
-use Rattle.text_lines.specs.Words.{behind_words}
+use Rattle.text_lines.specs.Words.{words_behind, behind_words}
 use Rattle.text_lines.proofs.Spelt.{words_of_line, rows_of_text, behind_spelt, behind_blank}
 use Rattle.edge_expression.specs.EntryReading.{IsEntryText}
 use Rattle.edge_expression.specs.EntryTexts.{entry_text}
 use Rattle.edge_expression.proofs.EntriesReadBack.{entry_reads_back}
-use Rattle.edge_text.specs.Grammar.{Words, IsLineOf, IsEdge, IsEdgeLine}
+use Rattle.text_lines.specs.Kinds.{behind}
+use Rattle.edge_text.specs.declared.fault.LineKind.{LineKind}
+use Rattle.edge_text.specs.Document.{edge_line}
+use Rattle.edge_text.specs.Grammar.{Words}
+use Rattle.edge_text.specs.WordReading.{edge}
+use Rattle.edge_text.proofs.Leaves.{edge_said as edge_words_said}
 use Rattle.edge_text.specs.CanonicalText.{name_at, edge_words, is_absent, edge_lines, table_lines}
 use Rattle.edge_text.proofs.CanonicalDrafts.{edge_at, before, edges_from}
 use Rattle.edge_text.proofs.CanonicalWords.{is_high, high_word, entry_is_word, blank_entry}
 
 -- ---- lines by their words
+
+same_name : (name : List ℕ) → bytes_eq name name ≡ true
+same_name name = (bytes_eq-Decides name name).1 refl
 
 -- a line that begins with a keyword
 pub keyed : (b : ℕ) (bs : List ℕ) (words : Words) → (b == 35) ≡ false → list_all is_high (b ∷ bs) ≡ true → AllByRecursion IsWord words
@@ -36,9 +45,17 @@ keyed b bs words e h w = (no_comment, high_word (b ∷ bs) (omega arith) h, w)
     no_comment q = grind (arith, nat_tests)
 
 -- it says what its words say
-pub line_is : (keyword : List ℕ) (words : Words) (Are : Words → Type 0) → IsLine (keyword ∷ words) → Are words
-    → IsLineOf keyword (line_spelt (keyword ∷ words)) Are
-line_is keyword words Are h a = record { behind = words; words = words_of_line (keyword ∷ words) (h.1, h.2); are = a }
+pub line_says : {A : Type 0} (keyword : List ℕ) (words : Words) (says : Words → Result A LineKind) (x : A) → IsLine (keyword ∷ words) → says words ≡ Ok x
+    → behind keyword says (line_spelt (keyword ∷ words)) ≡ Some (Ok x)
+line_says keyword words says x h e =
+    let same : bytes_eq keyword keyword ≡ true = same_name keyword in
+    ap (λ ws. option_map says (words_behind keyword ws)) (words_of_line (keyword ∷ words) (h.1, h.2)) ∙ rw same (ap Some e)
+
+-- it is of no other kind
+pub line_apart : {A : Type 0} (keyword : List ℕ) (words : Words) (other : List ℕ) (says : Words → Result A LineKind) → IsLine (keyword ∷ words)
+    → bytes_eq keyword other ≡ false → behind other says (line_spelt (keyword ∷ words)) ≡ None
+line_apart keyword words other says h n =
+    ap (λ ws. option_map says (words_behind other ws)) (words_of_line (keyword ∷ words) (h.1, h.2)) ∙ rw n refl
 
 pub all_append : {A : Type 0} (P : A → Type 0) (xs ys : List A) → AllByRecursion P xs → AllByRecursion P ys → AllByRecursion P (xs ++ ys)
 all_append P [] ys h k = k
@@ -75,10 +92,7 @@ distinct (name ∷ names) h = (
   distinct names (λ i j x y l e f. h (suc i) (suc j) x y (omega arith) e f),
 )
 
-same_name : (name : List ℕ) → bytes_eq name name ≡ true
-same_name name = (bytes_eq-Decides name name).1 refl
-
-other_name : (a b : List ℕ) → ¬ (a ≡ b) → bytes_eq a b ≡ false
+pub other_name : (a b : List ℕ) → ¬ (a ≡ b) → bytes_eq a b ≡ false
 other_name a b n = elim (cases_Bool (bytes_eq a b)) [ inl t ↦ absurd (n ((bytes_eq-Decides a b).0 t)) | inr f ↦ f ]
 
 name_apart : (name : List ℕ) (names : List (List ℕ)) (i : ℕ) → AllByRecursion (λ other. ¬ (name ≡ other)) names → i < length names
@@ -123,12 +137,12 @@ pub record IsEntry (e : List Ratio) : Type 0 where
   pub short : list_all is_short e ≡ true
 
 module _ (names : List (List ℕ)) (words : Each names IsWord) (apart : AreDistinct names) where
-  pub edge_line : (i j : ℕ) (e : List Ratio) → i < length names → j < length names → IsLine (edge_words names i j e)
-  edge_line i j e hi hj = keyed _ _ (name_at names i ∷ name_at names j ∷ entry_text e ∷ []) refl refl
+  edge_is_line : (i j : ℕ) (e : List Ratio) → i < length names → j < length names → IsLine (edge_words names i j e)
+  edge_is_line i j e hi hj = keyed _ _ (name_at names i ∷ name_at names j ∷ entry_text e ∷ []) refl refl
       (name_word names i words hi, (name_word names j words hj, (entry_is_word e, tt)))
 
   edge_said : (i j : ℕ) (e : List Ratio) → i < length names → j < length names → IsEntry e
-      → IsEdgeLine names (line_spelt (edge_words names i j e)) (record { from = i; to = j; entry = e })
+      → edge_line names (line_spelt (edge_words names i j e)) ≡ Some (Ok (record { from = i; to = j; entry = e }))
   edge_said i j e hi hj h =
       let a = name_at names i in
       let b = name_at names j in
@@ -138,15 +152,15 @@ module _ (names : List (List ℕ)) (words : Each names IsWord) (apart : AreDisti
       subst (λ t. IsEntryText t e) (sym (behind_three (codes "edge") a b (entry_text e) edge_word (name_word names i words hi)
       (name_word names j words hj) ∙ ap (λ t. 32 ∷ t) (append-nil (entry_text e))))
       (blank_entry (entry_text e) e (entry_reads_back e h.five h.short)) in
-      line_is (codes "edge") w (λ words. IsEdge names line words (record { from = i; to = j; entry = e })) (edge_line i j e hi hj)
-      (record {
+      line_says (codes "edge") w (edge names line) (record { from = i; to = j; entry = e }) (edge_is_line i j e hi hj)
+      (edge_words_said names line w (record { from = i; to = j; entry = e }) (record {
         from = a;
         to = b;
         ends = record { further = entry_text e; others = []; words_are = refl };
         from_is = place_of_name names i apart hi;
         to_is = place_of_name names j apart hj;
         says = says;
-      })
+      }))
 
   abbrev m : ℕ
   m = length names
@@ -165,18 +179,18 @@ module _ (names : List (List ℕ)) (words : Each names IsWord) (apart : AreDisti
     where
       by_test : (b : Bool) → AllByRecursion IsLine (if b then [] else edge_words names (p / m) (p % m) e ∷ [])
       by_test true = tt
-      by_test false = let w : p < m * m = omega arith in (edge_line (p / m) (p % m) e (row_below p w) (column_below p w), tt)
+      by_test false = let w : p < m * m = omega arith in (edge_is_line (p / m) (p % m) e (row_below p w) (column_below p w), tt)
 
   pub edges_said : (p : ℕ) (table : List (List Ratio)) → p + length table ≤ m * m → Each (edges_from m p table) (λ e. IsEntry e.entry)
-      → AllZip (IsEdgeLine names) (map line_spelt (table_lines names p table)) (edges_from m p table)
+      → AllZip (λ line e. edge_line names line ≡ Some (Ok e)) (map line_spelt (table_lines names p table)) (edges_from m p table)
   unfolding edge_lines
   edges_said p [] h g = tt
   edges_said p (e ∷ es) h g = by_test (is_absent e) g (λ k. edges_said (p + 1) es (omega arith) k)
     where
       by_test : (b : Bool) → Each (before b (edge_at m p e) (edges_from m (p + 1) es)) (λ e. IsEntry e.entry)
           → (Each (edges_from m (p + 1) es) (λ e. IsEntry e.entry)
-          → AllZip (IsEdgeLine names) (map line_spelt (table_lines names (p + 1) es)) (edges_from m (p + 1) es))
-          → AllZip (IsEdgeLine names) (map line_spelt
+          → AllZip (λ line e. edge_line names line ≡ Some (Ok e)) (map line_spelt (table_lines names (p + 1) es)) (edges_from m (p + 1) es))
+          → AllZip (λ line e. edge_line names line ≡ Some (Ok e)) (map line_spelt
           ((if b then [] else edge_words names (p / m) (p % m) e ∷ []) ++ table_lines names (p + 1) es))
           (before b (edge_at m p e) (edges_from m (p + 1) es))
       by_test true g rest = rest g

@@ -1,23 +1,30 @@
 -- The lines of stages in canonical texts.
-use Rattle.std.proofs.Common.{◌≡◌, ◌≢◌, refl, sym, ap, subst, ◌∙◌, ℕ, suc, ◌<◌, ◌≤◌, List, [], ◌∷◌, ◌++◌, length, map}
-use Rattle.std.proofs.Common.{true, false, arith, append_assoc}
+use Rattle.std.proofs.Common.{◌≡◌, refl, sym, ap, subst, ◌∙◌, ℕ, suc, ◌<◌, ◌≤◌, List, [], ◌∷◌, ◌++◌, length, map, Some, None, Ok, if◌then◌else◌}
+use Rattle.std.proofs.Common.{arith, append_assoc}
 use Rattle.std.specs.Prelude.{codes}
 use Rattle.std.specs.Fmt.{decimal}
 use Rattle.std.specs.List.{AllByRecursion, AllZip}
-use Rattle.std.proofs.lemmas.List.{map-append}
-use Rattle.std.proofs.lemmas.Slice.Eq.{bytes_eq-Decides}
+use Rattle.std.proofs.lemmas.List.{append-nil, map-append}
 use Rattle.field_core.specs.declared.ratio.Ratio.{Ratio}
 use Rattle.case_model.specs.declared.draft_stages.Arrival.{Arrival}
 use Rattle.case_model.specs.declared.spend.Spend.{Spend}
 use Rattle.case_model.specs.declared.spend.Spend.TheVariants.{Shares, Table}
 use Rattle.case_model.specs.declared.spend_step.SpendStep.{SpendStep}
 use Rattle.case_model.specs.ValidDraft.{Each}
+use Rattle.text_lines.specs.Forms.{Say, Line, Then}
+use Rattle.text_lines.specs.Kinds.{behind, more_lines, each_after}
 use Rattle.text_lines.specs.Spelling.{line_spelt, IsWord, IsLine}
+use Rattle.text_lines.specs.Words.{words_behind}
 use Rattle.text_lines.proofs.Spelt.{words_of_line}
-use Rattle.edge_text.specs.Grammar.{Words, IsArrival, AreShares, IsStep, IsTableLine, IsArriveLine, AreSpendLines, IsNoStep, EndsBefore, AreSpends}
+use Rattle.edge_text.specs.Document.{Lines, if_named, if_step, further_line, spend}
+use Rattle.edge_text.specs.Grammar.{Words}
 use Rattle.edge_text.specs.CanonicalText.{number_word, name_at, spend_words, table_words, arrive_words, spend_lines, spends_lines}
+use Rattle.edge_text.specs.WordReading.{shares, first_step, step_of, step_words, arrival}
 use Rattle.edge_text.proofs.CanonicalWords.{IsSaid, zip_map, all_map, number_is_word, numbers_are_words, whole_is, whole_is_word}
-use Rattle.edge_text.proofs.CanonicalLines.{keyed, line_is, all_append, AreDistinct, place_of_name, name_word}
+use Rattle.edge_text.proofs.CanonicalLines.{keyed, line_says, line_apart, all_append, AreDistinct, other_name, place_of_name, name_word}
+use Rattle.edge_text.proofs.FormSpells.{Other, Spells, spells_say, spells_line, spells_then, spells_last, spells_may, spells_other, spells_lines}
+use Rattle.edge_text.proofs.Leaves.{shares_said, first_said, arrival_said}
+use Rattle.edge_text.proofs.LinesTaken.{further_words}
 
 -- ---- what hypotheses spend
 
@@ -38,100 +45,83 @@ unfolding spend_lines
 spend_lines_are name (Shares fractions) h = (spend_line name fractions h, tt)
 spend_lines_are name (Table steps) h = all_map IsLine (table_words name) steps (λ i s e. table_line name s h)
 
-step_said : (name : List ℕ) (step : SpendStep) → IsWord name → IsSaid step.from → 0 < length step.levels → Each step.levels IsSaid
-    → IsTableLine name (line_spelt (table_words name step)) step
-step_said name step h from some levels =
-    line_is (codes "table") (name ∷ number_word step.from ∷ map number_word step.levels) (λ words. IsStep name words step) (table_line name step h)
-    (record {
-      numerals = number_word step.from ∷ map number_word step.levels;
-      words_are = refl;
-      each = (from, zip_map _ number_word step.levels levels);
-      some = some;
-    })
+-- the words of a step of its table
+step_said : (name : List ℕ) (step : SpendStep) → IsSaid step.from → 0 < length step.levels → Each step.levels IsSaid
+    → first_step name (name ∷ number_word step.from ∷ map number_word step.levels) ≡ Ok step
+step_said name step from some levels = first_said name (name ∷ number_word step.from ∷ map number_word step.levels) step (record {
+  numerals = number_word step.from ∷ map number_word step.levels;
+  words_are = refl;
+  each = (from, zip_map _ number_word step.levels levels);
+  some = some;
+})
 
-mapped_twice : (name : List ℕ) (steps : List SpendStep)
-    → map line_spelt (map (table_words name) steps) ≡ map (λ s. line_spelt (table_words name s)) steps
-mapped_twice name [] = refl
-mapped_twice name (s ∷ ss) = ap (λ (xs : List (List ℕ)). line_spelt (table_words name s) ∷ xs) (mapped_twice name ss)
+-- further steps of a table
+steps_said : (name : List ℕ) (steps : List SpendStep) → IsWord name → Each steps (λ s. IsSaid s.from × (0 < length s.levels) × Each s.levels IsSaid)
+    → AllZip (λ line t. further_line name line ≡ Some (Ok t)) (map line_spelt (map (table_words name) steps)) steps
+steps_said name [] h s = tt
+steps_said name (t ∷ ts) h s =
+    let w = s 0 t refl in
+    let l = table_line name t h in (
+      ap (λ ws. if_step name (words_behind (codes "table") ws)) (words_of_line (table_words name t) (l.1, l.2))
+          ∙ further_words name (name ∷ number_word t.from ∷ map number_word t.levels) t (step_said name t w.0 w.1 w.2),
+      steps_said name ts h (λ i x e. s (suc i) x e),
+    )
 
-spend_said : (name : List ℕ) (spend : Spend) → IsWord name → IsSpendSaid spend → AreSpendLines name (map line_spelt (spend_lines name spend)) spend
+abbrev table : List ℕ → Lines Spend
+table name = Then (Line (behind (codes "table") (first_step name))) (λ step. Then (more_lines (further_line name) (step ∷ [])) (λ steps. Say (Table steps)))
+
+-- the lines of a spend, before a line that is not a step of its table
+spend_said : (name : List ℕ) (x : Spend) (after : List (List ℕ)) → IsWord name → IsSpendSaid x → Other (further_line name) after
+    → Spells (spend name) (map line_spelt (spend_lines name x)) x after
 unfolding spend_lines
-spend_said name (Shares fractions) h s = (
-  line_spelt (spend_words name fractions),
-  refl,
-  line_is (codes "spend") (name ∷ map number_word fractions) (λ words. AreShares name words fractions) (spend_line name fractions h)
-      (record { numerals = map number_word fractions; words_are = refl; each = zip_map _ number_word fractions s.1; some = s.0 }),
-)
-spend_said name (Table steps) h s = (
-  subst (λ lines. AllZip (IsTableLine name) lines steps) (sym (mapped_twice name steps))
-      (zip_map (IsTableLine name) (λ s. line_spelt (table_words name s)) steps (λ i x e. let w = s.1 i x e in step_said name x h w.0 w.1 w.2)),
-  s.0,
-)
+spend_said name (Shares fractions) after h s o =
+    let words : Words = name ∷ map number_word fractions in
+    spells_may (behind (codes "spend") (shares name)) (λ xs. Say (Shares xs)) (table name) (line_spelt (spend_words name fractions)) [] fractions (Shares fractions) after
+    (line_says (codes "spend") words (shares name) fractions (spend_line name fractions h) (shares_said name words fractions
+    (record { numerals = map number_word fractions; words_are = refl; each = zip_map _ number_word fractions s.1; some = s.0 })))
+    (spells_say (Shares fractions) after)
+spend_said name (Table []) after h s o = absurd (let few : 0 < length {A = SpendStep} [] = s.0 in omega arith)
+spend_said name (Table (t ∷ ts)) after h s o =
+    let words : Words = name ∷ number_word t.from ∷ map number_word t.levels in
+    let first = line_spelt (table_words name t) in
+    let rest = map line_spelt (map (table_words name) ts) in
+    let w = s.1 0 t refl in
+    spells_other (behind (codes "spend") (shares name)) (λ xs. Say (Shares xs)) (table name) (first ∷ rest) (Table (t ∷ ts)) after
+    (line_apart (codes "table") words (codes "spend") (shares name) (table_line name t h) refl)
+    (spells_then (Line (behind (codes "table") (first_step name))) (λ step. Then (more_lines (further_line name) (step ∷ [])) (λ steps. Say (Table steps)))
+    (first ∷ []) rest t (Table (t ∷ ts)) after
+    (spells_line (behind (codes "table") (first_step name)) first t (rest ++ after)
+    (line_says (codes "table") words (first_step name) t (table_line name t h) (step_said name t w.0 w.1 w.2)))
+    (spells_last (more_lines (further_line name) (t ∷ [])) Table rest (t ∷ ts) after
+    (spells_lines (further_line name) (t ∷ []) rest ts after (steps_said name ts h (λ i x e. s.1 (suc i) x e)) o)))
 
 -- ---- where a table ends
 
--- the line isn't one of the table of this name
-abbrev IsOther : List ℕ → List ℕ → Type 0
-IsOther name line = (step : SpendStep) → ¬ IsTableLine name line step
-
-second_words : (a b x y : List ℕ) (xs ys : Words) → a ∷ x ∷ xs ≡ b ∷ y ∷ ys → x ≡ y
-second_words a b x y xs ys e = cc
-
-keywords : (a b : List ℕ) (xs ys : Words) → a ∷ xs ≡ b ∷ ys → a ≡ b
-keywords a b xs ys e = cc
-
-spend_is_other : codes "spend" ≢ codes "table"
-spend_is_other e = let q : true ≡ false = sym ((bytes_eq-Decides (codes "spend") (codes "table")).1 e) ∙ refl in cc
-
-arrive_is_other : codes "arrive" ≢ codes "table"
-arrive_is_other e = let q : true ≡ false = sym ((bytes_eq-Decides (codes "arrive") (codes "table")).1 e) ∙ refl in cc
-
--- a line with another keyword
-other_keyword : (keyword : List ℕ) (words : Words) (name : List ℕ) → IsLine (keyword ∷ words) → keyword ≢ codes "table"
-    → IsOther name (line_spelt (keyword ∷ words))
-other_keyword keyword words name h n step t = n (keywords keyword (codes "table") words t.behind
-    (sym (words_of_line (keyword ∷ words) (h.1, h.2)) ∙ t.words))
-
--- a line of another table
-other_table : (name other : List ℕ) (step : SpendStep) → IsWord other → ¬ (name ≡ other) → IsOther name (line_spelt (table_words other step))
-other_table name other step h n s t =
+-- a step of another table
+table_other : (name other : List ℕ) (step : SpendStep) → IsWord other → ¬ (name ≡ other) → 0 < length step.levels
+    → further_line name (line_spelt (table_words other step)) ≡ None
+table_other name other step h n some =
     let l = table_line other step h in
-    let rest : Words = number_word step.from ∷ map number_word step.levels in
-    let e : codes "table" ∷ other ∷ rest ≡ codes "table" ∷ t.behind = sym (words_of_line (table_words other step) (l.1, l.2)) ∙ t.words in
-    let f : codes "table" ∷ other ∷ rest ≡ codes "table" ∷ name ∷ t.are.numerals = e ∙ ap (λ (ws : Words). codes "table" ∷ ws) t.are.words_are in
-    n (sym (second_words (codes "table") (codes "table") other name rest t.are.numerals f))
+    ap (λ ws. if_step name (words_behind (codes "table") ws)) (words_of_line (table_words other step) (l.1, l.2)) ∙ by step.levels some
+  where
+    by : (levels : List Ratio) → 0 < length levels → if_named name (step_words (other ∷ number_word step.from ∷ map number_word levels)) ≡ None
+    by [] few = absurd (let q : 0 < length {A = Ratio} [] = few in omega arith)
+    by (x ∷ xs) few = ap (λ b. if b then Some (step_of (number_word step.from) (number_word x ∷ map number_word xs)) else None) (other_name other name (λ e. n (sym e)))
 
-other_steps : (name other : List ℕ) (steps : List SpendStep) → IsWord other → ¬ (name ≡ other)
-    → AllByRecursion (IsOther name) (map line_spelt (map (table_words other) steps))
-other_steps name other [] h n = tt
-other_steps name other (s ∷ ss) h n = (other_table name other s h n, other_steps name other ss h n)
-
-other_spend : (name other : List ℕ) (spend : Spend) → IsWord other → ¬ (name ≡ other)
-    → AllByRecursion (IsOther name) (map line_spelt (spend_lines other spend))
+-- what other hypotheses spend does not continue the table of this name
+rest_other : (name : List ℕ) (names : List (List ℕ)) (spends : List Spend) (after : List (List ℕ)) → AllByRecursion IsWord names
+    → AllByRecursion (λ other. ¬ (name ≡ other)) names → Each spends IsSpendSaid → Other (further_line name) after
+    → Other (further_line name) (map line_spelt (spends_lines names spends) ++ after)
 unfolding spend_lines
-other_spend name other (Shares fractions) h n = (
-  other_keyword (codes "spend") (other ∷ map number_word fractions) name
-      (spend_line other fractions h) spend_is_other,
-  tt,
-)
-other_spend name other (Table steps) h n = other_steps name other steps h n
-
-other_spends : (name : List ℕ) (names : List (List ℕ)) (spends : List Spend) → AllByRecursion IsWord names
-    → AllByRecursion (λ other. ¬ (name ≡ other)) names → AllByRecursion (IsOther name) (map line_spelt (spends_lines names spends))
-other_spends name [] spends h n = tt
-other_spends name (other ∷ names) [] h n = tt
-other_spends name (other ∷ names) (spend ∷ spends) h n =
-    subst (AllByRecursion (IsOther name)) (sym (map-append line_spelt (spend_lines other spend) (spends_lines names spends)))
-    (all_append (IsOther name) (map line_spelt (spend_lines other spend)) (map line_spelt (spends_lines names spends))
-    (other_spend name other spend h.0 n.0) (other_spends name names spends h.1 n.1))
-
-no_step : (name : List ℕ) (lines : List (List ℕ)) → AllByRecursion (IsOther name) lines → IsNoStep name lines
-no_step name [] h line rest step e = absurd (cc)
-no_step name (l ∷ ls) h line rest step e = let same : l ≡ line = cc in subst (λ l. ¬ IsTableLine name l step) same (h.0 step)
-
-ends_before : (name : List ℕ) (spend : Spend) (lines : List (List ℕ)) → AllByRecursion (IsOther name) lines → EndsBefore name spend lines
-ends_before name (Shares fractions) lines h = tt
-ends_before name (Table steps) lines h = no_step name lines h
+rest_other name [] spends after h n s o = o
+rest_other name (other ∷ names) [] after h n s o = o
+rest_other name (other ∷ names) (Shares fractions ∷ spends) after h n s o =
+    let l = spend_line other fractions h.0 in
+    ap (λ ws. if_step name (words_behind (codes "table") ws)) (words_of_line (spend_words other fractions) (l.1, l.2))
+rest_other name (other ∷ names) (Table [] ∷ spends) after h n s o =
+    absurd (let few : 0 < length {A = SpendStep} [] = (s 0 (Table []) refl).0 in omega arith)
+rest_other name (other ∷ names) (Table (t ∷ ts) ∷ spends) after h n s o =
+    let w = (s 0 (Table (t ∷ ts)) refl).1 0 t refl in table_other name other t h.0 n.0 w.1
 
 pub spends_lines_are : (names : List (List ℕ)) (spends : List Spend) → AllByRecursion IsWord names → AllByRecursion IsLine (spends_lines names spends)
 spends_lines_are [] spends h = tt
@@ -139,26 +129,22 @@ spends_lines_are (name ∷ names) [] h = tt
 spends_lines_are (name ∷ names) (spend ∷ spends) h =
     all_append IsLine (spend_lines name spend) (spends_lines names spends) (spend_lines_are name spend h.0) (spends_lines_are names spends h.1)
 
-pub spends_said : (names : List (List ℕ)) (spends : List Spend) (others : List (List ℕ)) → AllByRecursion IsWord names → AreDistinct names
-    → length spends ≡ length names → Each spends IsSpendSaid
-    → ((name : List ℕ) → AllByRecursion (IsOther name) others) → AreSpends names (map line_spelt (spends_lines names spends) ++ others) spends others
-spends_said [] [] others h n l s o = refl
-spends_said [] (spend ∷ spends) others h n l s o = absurd (omega arith)
-spends_said (name ∷ names) [] others h n l s o = absurd (omega arith)
-spends_said (name ∷ names) (spend ∷ spends) others h n l s o =
-    let run = map line_spelt (spend_lines name spend) in
-    let rest = map line_spelt (spends_lines names spends) ++ others in
-    let whole : map line_spelt (spend_lines name spend ++ spends_lines names spends) ++ others ≡ run ++ rest =
-    ap (λ (xs : List (List ℕ)). xs ++ others) (map-append line_spelt (spend_lines name spend) (spends_lines names spends))
-    ∙ append_assoc run (map line_spelt (spends_lines names spends)) others in (
-      run,
-      rest,
-      whole,
-      spend_said name spend h.0 (s 0 spend refl),
-      ends_before name spend rest (all_append (IsOther name) (map line_spelt (spends_lines names spends)) others
-          (other_spends name names spends h.1 n.0) (o name)),
-      spends_said names spends others h.1 n.1 (omega arith) (λ i x e. s (suc i) x e) o,
-    )
+pub spends_said : (names : List (List ℕ)) (before spends : List Spend) (after : List (List ℕ)) → AllByRecursion IsWord names → AreDistinct names
+    → length spends ≡ length names → Each spends IsSpendSaid → ((name : List ℕ) → Other (further_line name) after)
+    → Spells (each_after spend before names) (map line_spelt (spends_lines names spends)) (before ++ spends) after
+spends_said [] before [] after h n l s o =
+    subst (λ xs. Spells (each_after spend before []) [] xs after) (sym (append-nil before)) (spells_say before after)
+spends_said [] before (x ∷ xs) after h n l s o = absurd (omega arith)
+spends_said (name ∷ names) before [] after h n l s o = absurd (omega arith)
+spends_said (name ∷ names) before (x ∷ xs) after h n l s o =
+    let rest = map line_spelt (spends_lines names xs) in
+    let all = before ++ x ∷ xs in
+    let form = each_after spend before (name ∷ names) in
+    subst (λ lines. Spells form lines all after) (sym (map-append line_spelt (spend_lines name x) (spends_lines names xs)))
+    (spells_then (spend name) (λ y. each_after spend (before ++ y ∷ []) names) (map line_spelt (spend_lines name x)) rest x all after
+    (spend_said name x (rest ++ after) h.0 (s 0 x refl) (rest_other name names xs after h.1 n.0 (λ i y e. s (suc i) y e) (o name)))
+    (subst (λ ys. Spells (each_after spend (before ++ x ∷ []) names) rest ys after) (append_assoc before (x ∷ []) xs)
+    (spends_said names (before ++ x ∷ []) xs after h.1 n.1 (omega arith) (λ i y e. s (suc i) y e) o)))
 
 -- ---- p-values that arrived
 
@@ -177,31 +163,29 @@ module _ (names : List (List ℕ)) (words : Each names IsWord) where
       → AllByRecursion IsLine (map (arrive_words names) arrivals)
   arrive_lines_are arrivals h = all_map IsLine (arrive_words names) arrivals (λ i a e. let w = h i a e in arrive_line a w.known w.stage)
 
+  -- they continue no table
   pub arrivals_other : (name : List ℕ) (arrivals : List Arrival) → Each arrivals (IsArrivalSaid (length names))
-      → AllByRecursion (IsOther name) (map line_spelt (map (arrive_words names) arrivals))
+      → Other (further_line name) (map line_spelt (map (arrive_words names) arrivals))
   arrivals_other name [] h = tt
   arrivals_other name (a ∷ arrivals) h =
-      let w = h 0 a refl in (
-        other_keyword (codes "arrive") (name_at names a.hypothesis ∷ decimal a.stage ∷ number_word a.p ∷ []) name (arrive_line a w.known w.stage)
-            arrive_is_other,
-        arrivals_other name arrivals (λ i x e. h (suc i) x e),
-      )
+      let w = h 0 a refl in
+      let l = arrive_line a w.known w.stage in
+      ap (λ ws. if_step name (words_behind (codes "table") ws)) (words_of_line (arrive_words names a) (l.1, l.2))
 
   pub arrivals_said : (apart : AreDistinct names) (arrivals : List Arrival) → Each arrivals (IsArrivalSaid (length names))
-      → AllZip (IsArriveLine names) (map line_spelt (map (arrive_words names) arrivals)) arrivals
+      → AllZip (λ line a. behind (codes "arrive") (arrival names) line ≡ Some (Ok a)) (map line_spelt (map (arrive_words names) arrivals)) arrivals
   arrivals_said apart [] h = tt
   arrivals_said apart (a ∷ arrivals) h =
-      let w = h 0 a refl in (
-        line_is (codes "arrive") (name_at names a.hypothesis ∷ decimal a.stage ∷ number_word a.p ∷ []) (λ words. IsArrival names words a)
-            (arrive_line a w.known w.stage)
-            (record {
-              name = name_at names a.hypothesis;
-              stage = decimal a.stage;
-              numeral = number_word a.p;
-              words_are = refl;
-              name_is = place_of_name names a.hypothesis apart w.known;
-              stage_is = whole_is a.stage w.stage;
-              says = w.p;
-            }),
+      let w = h 0 a refl in
+      let words : Words = name_at names a.hypothesis ∷ decimal a.stage ∷ number_word a.p ∷ [] in (
+        line_says (codes "arrive") words (arrival names) a (arrive_line a w.known w.stage) (arrival_said names words a (record {
+          name = name_at names a.hypothesis;
+          stage = decimal a.stage;
+          numeral = number_word a.p;
+          words_are = refl;
+          name_is = place_of_name names a.hypothesis apart w.known;
+          stage_is = whole_is a.stage w.stage;
+          says = w.p;
+        })),
         arrivals_said apart arrivals (λ i x e. h (suc i) x e),
       )

@@ -6,6 +6,7 @@ use Rattle.text_lines.specs.Words.{words_of, words_behind}
 use Rattle.text_lines.proofs.Keywords.{keyword_found, keyword_missing}
 use Rattle.case_model.specs.declared.spend_step.SpendStep.{SpendStep}
 use Rattle.edge_text.specs.declared.fault.LineKind.TheVariants.{Unexpected, WordCount}
+use Rattle.edge_text.specs.Document.{if_named}
 use Rattle.edge_text.specs.Grammar.{Words, IsLineOf}
 use Rattle.field_core.specs.Answers.{and_then}
 use Rattle.edge_text.specs.WordReading.{on_words, behind, found_or, step_words, step_of, first_step}
@@ -84,6 +85,14 @@ step_said name words t e = by (step_words words) refl e
 
 pub step_says : (name : List ℕ) (words : Words) (t : SpendStep) → StepSaid name words t → first_step name words ≡ Ok t
 step_says name words t h = let f = h.found in let n = h.named in rw (f, n) h.says
+
+-- a further step of the table of this name
+pub further_words : (name : List ℕ) (words : Words) (t : SpendStep) → first_step name words ≡ Ok t → if_named name (step_words words) ≡ Some (Ok t)
+further_words name words t e =
+    let s = step_said name words t e in
+    let f = s.found in
+    let n = s.named in
+    rw (f, n) (ap Some s.says)
 
 -- ---- what is left of names
 

@@ -47,7 +47,7 @@ keep_word : (word : List ℕ) (words : Words) → 0 < length word → filter is_
 keep_word [] words h = absurd (omega arith)
 keep_word (b ∷ word) words h = refl
 
-word_first : (word rest : List ℕ) → IsNameWord word → words_of (word ++ 32 ∷ rest) ≡ word ∷ words_of rest
+pub word_first : (word rest : List ℕ) → IsNameWord word → words_of (word ++ 32 ∷ rest) ≡ word ∷ words_of rest
 unfolding words_of
 word_first word rest h = ap (filter is_word) (split_word word rest h.plain) ∙ keep_word word (slice_split is_blank rest) h.some
 

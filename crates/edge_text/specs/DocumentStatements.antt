@@ -1,19 +1,56 @@
--- The grammar of texts and their language of lines are one.
-use Rattle.std.specs.Prelude.{ℕ, List}
+-- The form of texts of cases: what lines say by it, and the places at which they are read.
+use Rattle.std.specs.Prelude.{◌≡◌, ◌↔◌, ℕ, List, map, Some, Ok, codes}
+use Rattle.field_core.specs.declared.ratio.Ratio.{Ratio}
 use Rattle.case_model.specs.declared.draft.Draft.{Draft}
-use Rattle.text_lines.specs.Languages.{IsDocument as IsOfLanguage, Completes}
+use Rattle.text_lines.specs.Forms.{Leaf, texts_seen, reading, IsDocument}
+use Rattle.text_lines.specs.FormStatements.{BeginsDocument}
+use Rattle.text_lines.specs.Kinds.{behind}
+use Rattle.text_lines.specs.Languages.{reading as reading_by_places}
+use Rattle.text_lines.specs.Lines.{Row, rows_of}
+use Rattle.edge_text.specs.declared.fault.LineKind.{LineKind}
+use Rattle.edge_text.specs.declared.fault.LineKind.TheVariants.{Ended}
 use Rattle.edge_text.specs.declared.place.Place.TheVariants.{Alpha}
-use Rattle.edge_text.specs.Grammar.{IsDocument}
+use Rattle.edge_text.specs.Document.{edge_line, further_line, document, kinds, IsText}
+use Rattle.edge_text.specs.Faults.{IsFirstFault}
+use Rattle.edge_text.specs.Grammar.{Words, IsAlphaLine, IsNamesLine, IsPLine, IsShareLine, IsWeightsLine, IsEdgeLine, IsStagesLine, IsSpendLine, IsTableLine, IsArriveLine}
 use Rattle.edge_text.specs.Places.{cases}
+use Rattle.edge_text.specs.WordReading.{number, numbers, given, count, shares, first_step, arrival}
 
--- each document is of the language, with the same draft
-abbrev pub DocumentsAreSaid : Type 0
-DocumentsAreSaid = (lines : List (List ℕ)) (draft : Draft) → IsDocument lines draft → IsOfLanguage cases Alpha lines draft
+-- a text denotes what its lines say
+abbrev pub TextsSayTheirLines : Type 0
+TextsSayTheirLines = (bytes : List ℕ) (draft : Draft) → IsText bytes draft ↔ IsDocument document (texts_seen (rows_of bytes)) draft
 
--- lines of the language are a document, with the same draft
-abbrev pub SaidAreDocuments : Type 0
-SaidAreDocuments = (lines : List (List ℕ)) (draft : Draft) → IsOfLanguage cases Alpha lines draft → IsDocument lines draft
+-- from place to place the same draft is read as by the form, or the same fault on the same line
+abbrev pub PlacesAreOfTheForm : Type 0
+PlacesAreOfTheForm = (rows : List Row) (end : ℕ) → reading_by_places cases Alpha rows end ≡ reading kinds document (texts_seen rows) end
 
--- from each place that lines lead to, some text continues to its end
+-- some document begins with all lines of a text that only ends too early
 abbrev pub TextsCanEnd : Type 0
-TextsCanEnd = Completes cases Alpha
+TextsCanEnd = (bytes : List ℕ) (number : ℕ) → IsFirstFault bytes number Ended → BeginsDocument document (texts_seen (rows_of bytes))
+
+-- a kind of line is read as the lines of a relation, which say the same
+abbrev pub IsReadAs : {A : Type 0} → Leaf (List ℕ) LineKind A → (List ℕ → A → Type 0) → Type 0
+IsReadAs {A} kind Is = (line : List ℕ) (said : A) → (kind line ≡ Some (Ok said)) ↔ Is line said
+
+-- `alpha`, `hypotheses`, `p`, `component` and `weights`
+pub record LinesOfNumbersAreRead : Type 0 where
+  pub alpha : IsReadAs (behind (codes "alpha") number) IsAlphaLine
+  pub names : IsReadAs (behind (codes "hypotheses") (λ words. Ok words)) IsNamesLine
+  pub p : IsReadAs (behind (codes "p") given) (λ line p. (values : List Ratio) × IsPLine line values × (p ≡ map Some values))
+  pub share : IsReadAs (behind (codes "component") number) IsShareLine
+  pub weights : IsReadAs (behind (codes "weights") numbers) IsWeightsLine
+
+-- `edge`
+abbrev pub EdgesAreRead : Type 0
+EdgesAreRead = (names : Words) → IsReadAs (edge_line names) (IsEdgeLine names)
+
+-- `stages`, `spend`, `table` and `arrive`, for a hypothesis of this name
+pub record StageLinesAreRead (names : Words) (name : List ℕ) : Type 0 where
+  pub count : IsReadAs (behind (codes "stages") count) IsStagesLine
+  pub spend : IsReadAs (behind (codes "spend") (shares name)) (IsSpendLine name)
+  pub table : IsReadAs (behind (codes "table") (first_step name)) (IsTableLine name)
+  pub further : IsReadAs (further_line name) (IsTableLine name)
+  pub arrive : IsReadAs (behind (codes "arrive") (arrival names)) (IsArriveLine names)
+
+abbrev pub LinesOfStagesAreRead : Type 0
+LinesOfStagesAreRead = (names : Words) (name : List ℕ) → StageLinesAreRead names name

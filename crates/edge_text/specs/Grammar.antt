@@ -1,21 +1,15 @@
--- What lines denote, and which lists of lines are documents.
-use Rattle.std.specs.Prelude.{◌≡◌, ◌<◌, ◌⊎◌, ℕ, List, [], ◌∷◌, ◌++◌, Option, Some, None, map, length, codes, pos}
-use Rattle.std.specs.List.{AllZip, flat_map}
+-- What words and lines denote.
+use Rattle.std.specs.Prelude.{◌≡◌, ◌<◌, ℕ, List, [], ◌∷◌, Some, length, codes, pos}
+use Rattle.std.specs.List.{AllZip}
 use Rattle.field_core.specs.declared.ratio.Ratio.{Ratio}
 use Rattle.field_core.specs.View.{terms}
 use Rattle.numerals.specs.Numeral.{IsNumeralOf}
 use Rattle.numerals.specs.WholeNumbers.{WritesNumber}
 use Rattle.fraction.specs.Plain.{one_reduced}
-use Rattle.case_model.specs.declared.draft.Draft.{Draft}
-use Rattle.case_model.specs.declared.draft_component.DraftComponent.{DraftComponent}
 use Rattle.case_model.specs.declared.draft_edge.DraftEdge.{DraftEdge}
-use Rattle.case_model.specs.declared.draft_stages.DraftStages.{DraftStages}
 use Rattle.case_model.specs.declared.draft_stages.Arrival.{Arrival}
-use Rattle.case_model.specs.declared.spend.Spend.{Spend}
-use Rattle.case_model.specs.declared.spend.Spend.TheVariants.{Shares, Table}
 use Rattle.case_model.specs.declared.spend_step.SpendStep.{SpendStep}
 use Rattle.case_model.specs.Names.{position_of}
-use Rattle.text_lines.specs.Lines.{rows_of, texts_in}
 use Rattle.text_lines.specs.Words.{words_of, behind_words}
 use Rattle.edge_expression.specs.EntryReading.{IsEntryText}
 
@@ -138,107 +132,6 @@ IsTableLine name line step = IsLineOf (codes "table") line (λ words. IsStep nam
 abbrev pub IsArriveLine : List (List ℕ) → List ℕ → Arrival → Type 0
 IsArriveLine names line arrival = IsLineOf (codes "arrive") line (λ words. IsArrival names words arrival)
 
--- a line that may be left out
-abbrev pub optional : Option (List ℕ) → List (List ℕ)
-optional None = []
-optional (Some line) = line ∷ []
-
--- the p-values that such a line gives: none if it is left out
-abbrev pub GivesP : Option (List ℕ) → List (Option Ratio) → Type 0
-GivesP None p = p ≡ []
-GivesP (Some line) p = (values : List Ratio) × IsPLine line values × (p ≡ map Some values)
-
 -- 1/1
 abbrev pub one : Ratio
 one = record { num = pos 1; den = pos 1; valid = one_reduced }
-
--- The weights of a component, and its edges, any number of them.
-pub record IsBlock (names : List (List ℕ)) (lines : List (List ℕ)) (component : DraftComponent) : Type 0 where
-  pub weights_line : List ℕ
-  pub edge_lines : List (List ℕ)
-  pub spelt : lines ≡ weights_line ∷ edge_lines
-  pub weights : IsWeightsLine weights_line component.weights
-  pub edges : AllZip (IsEdgeLine names) edge_lines component.edges
-
--- The share of a component, and then its block.
-pub record IsSharedBlock (names : List (List ℕ)) (lines : List (List ℕ)) (component : DraftComponent) : Type 0 where
-  pub share_line : List ℕ
-  pub block_lines : List (List ℕ)
-  pub spelt : lines ≡ share_line ∷ block_lines
-  pub share : IsShareLine share_line component.share
-  pub block : IsBlock names block_lines component
-
--- A block without a share is the only one, and its share is 1.
-pub record IsLoneBlock (names : List (List ℕ)) (lines : List (List ℕ)) (components : List DraftComponent) : Type 0 where
-  pub component : DraftComponent
-  pub only : components ≡ component ∷ []
-  pub share_is : component.share ≡ one
-  pub block : IsBlock names lines component
-
--- One block or more, each with its share.
-pub record AreSharedBlocks (names : List (List ℕ)) (lines : List (List ℕ)) (components : List DraftComponent) : Type 0 where
-  pub blocks : List (List (List ℕ))
-  pub spelt : lines ≡ flat_map (λ block. block) blocks
-  pub are : AllZip (IsSharedBlock names) blocks components
-  pub some : 0 < length components
-
--- the blocks of the components
-abbrev pub AreBlocks : List (List ℕ) → List (List ℕ) → List DraftComponent → Type 0
-AreBlocks names lines components = IsLoneBlock names lines components ⊎ AreSharedBlocks names lines components
-
--- the lines of what the hypothesis of this name spends: one line of shares, or the lines of the steps of a table, one or more
-abbrev pub AreSpendLines : List ℕ → List (List ℕ) → Spend → Type 0
-AreSpendLines name lines (Shares shares) = (line : List ℕ) × (lines ≡ line ∷ []) × IsSpendLine name line shares
-AreSpendLines name lines (Table steps) = AllZip (IsTableLine name) lines steps × (0 < length steps)
-
--- no line of the table of this name is the first of these lines
-abbrev pub IsNoStep : List ℕ → List (List ℕ) → Type 0
-IsNoStep name lines = (line : List ℕ) → (rest : List (List ℕ)) → (step : SpendStep) → lines ≡ line ∷ rest → ¬ IsTableLine name line step
-
--- a table is all lines that say its steps, up to the first other line
-abbrev pub EndsBefore : List ℕ → Spend → List (List ℕ) → Type 0
-EndsBefore name (Shares shares) lines = Unit {0}
-EndsBefore name (Table steps) lines = IsNoStep name lines
-
--- for each hypothesis, in their order, the lines of what it spends; other lines follow them
-abbrev pub AreSpends : List (List ℕ) → List (List ℕ) → List Spend → List (List ℕ) → Type 0
-AreSpends [] lines [] others = lines ≡ others
-AreSpends [] lines (spend ∷ spends) others = ⊥
-AreSpends (name ∷ names) lines [] others = ⊥
-AreSpends (name ∷ names) lines (spend ∷ spends) others =
-    (run : List (List ℕ)) × (rest : List (List ℕ)) × (lines ≡ run ++ rest) × AreSpendLines name run spend
-    × EndsBefore name spend rest × AreSpends names rest spends others
-
--- The number of the stages, what each hypothesis spends at them, and the p-values that arrived, in their order.
-pub record AreStages (names : List (List ℕ)) (lines : List (List ℕ)) (stages : DraftStages) : Type 0 where
-  pub count_line : List ℕ
-  pub spend_lines : List (List ℕ)
-  pub arrive_lines : List (List ℕ)
-  pub spelt : lines ≡ count_line ∷ spend_lines
-  pub count : IsStagesLine count_line stages.count
-  pub spends : AreSpends names spend_lines stages.spend arrive_lines
-  pub arrivals : AllZip (IsArriveLine names) arrive_lines stages.arrivals
-
--- the stages, or no lines
-abbrev pub MayHaveStages : List (List ℕ) → List (List ℕ) → Option DraftStages → Type 0
-MayHaveStages names lines None = lines ≡ []
-MayHaveStages names lines (Some stages) = AreStages names lines stages
-
--- The lines are, in this order, the level, the names, perhaps the p-values, the blocks of the components, and perhaps the stages, and they denote
--- this draft.
-pub record IsDocument (lines : List (List ℕ)) (draft : Draft) : Type 0 where
-  pub alpha_line : List ℕ
-  pub names_line : List ℕ
-  pub p_line : Option (List ℕ)
-  pub block_lines : List (List ℕ)
-  pub stage_lines : List (List ℕ)
-  pub spelt : lines ≡ alpha_line ∷ names_line ∷ optional p_line ++ (block_lines ++ stage_lines)
-  pub alpha : IsAlphaLine alpha_line draft.alpha
-  pub names : IsNamesLine names_line draft.names
-  pub p : GivesP p_line draft.p
-  pub blocks : AreBlocks draft.names block_lines draft.components
-  pub stages : MayHaveStages draft.names stage_lines draft.stages
-
--- the lines of a text that aren't skipped are a document, and it denotes this draft
-abbrev pub IsText : List ℕ → Draft → Type 0
-IsText bytes draft = IsDocument (texts_in (rows_of bytes)) draft

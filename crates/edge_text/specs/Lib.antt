@@ -1,5 +1,6 @@
 pub mod CanonicalStatements
 pub mod CanonicalText
+pub mod Document
 pub mod DocumentStatements
 pub mod Drafts
 pub mod Faults

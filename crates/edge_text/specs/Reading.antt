@@ -8,7 +8,7 @@ use Rattle.case_model.specs.Content.{content_of}
 use Rattle.case_model.specs.declared.draft.Draft.{Draft}
 use Rattle.edge_text.specs.declared.fault.TextFault.{TextFault}
 use Rattle.edge_text.specs.declared.fault.TextFault.TheVariants.{Line, Case as RefusedCase, NoMemory}
-use Rattle.edge_text.specs.Grammar.{IsText}
+use Rattle.edge_text.specs.Document.{IsText}
 use Rattle.edge_text.specs.Faults.{IsFirstFault}
 
 -- The text denotes a draft without fault, and the case has its content.

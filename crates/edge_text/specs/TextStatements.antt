@@ -1,5 +1,5 @@
--- What the grammar of texts and its first faults promise.
-use Rattle.std.specs.Prelude.{◌≡◌, ◌≢◌, ◌⊎◌, ℕ, List, [], ◌∷◌, ◌++◌}
+-- What the form of texts and its first faults promise.
+use Rattle.std.specs.Prelude.{◌≡◌, ◌≢◌, ◌⊎◌, ℕ, List}
 use Rattle.case_model.specs.declared.case.Case.{Case}
 use Rattle.case_model.specs.declared.fault.Refused.{Refused}
 use Rattle.case_model.specs.CaseView.{content}
@@ -8,8 +8,10 @@ use Rattle.edge_text.specs.declared.fault.LineKind.{LineKind}
 use Rattle.edge_text.specs.declared.fault.LineKind.TheVariants.{Ended}
 use Rattle.edge_text.specs.declared.fault.TextFault.{TextFault}
 use Rattle.edge_text.specs.declared.fault.TextFault.TheVariants as faults
-use Rattle.text_lines.specs.Lines.{Row, rows_of, texts_in, end_of}
-use Rattle.edge_text.specs.Grammar.{IsDocument, IsText}
+use Rattle.text_lines.specs.Forms.{texts_seen}
+use Rattle.text_lines.specs.FormStatements.{IsWhereNoneGoesOn, IsUnfinished}
+use Rattle.text_lines.specs.Lines.{rows_of, end_of}
+use Rattle.edge_text.specs.Document.{document, IsText}
 use Rattle.edge_text.specs.Faults.{IsFirstFault}
 use Rattle.edge_text.specs.Reading.{IsCaseOf, IsRefusedText, IsTextFault}
 use Rattle.edge_expression.specs.EntryReading.{IsEntryText, IsExprFault}
@@ -32,41 +34,21 @@ TextsSayOrFail = (bytes : List ℕ) → ((d : Draft) × IsText bytes d) ⊎ ((n 
 abbrev pub TextsDontSayAndFail : Type 0
 TextsDontSayAndFail = (bytes : List ℕ) (d : Draft) (n : ℕ) (kind : LineKind) → IsText bytes d → ¬ IsFirstFault bytes n kind
 
--- some document begins with these lines
-pub record BeginDocument (lines : List (List ℕ)) : Type 0 where
-  pub more : List (List ℕ)
-  pub draft : Draft
-  pub is : IsDocument (lines ++ more) draft
-
--- The lines before the one of this number begin some document, and together with that line they begin none.
-pub record IsWhereNoneGoesOn (rows : List Row) (number : ℕ) : Type 0 where
-  pub before : List Row
-  pub row : Row
-  pub after : List Row
-  pub rows_are : rows ≡ before ++ row ∷ after
-  pub number_is : number ≡ row.number
-  pub begins : BeginDocument (texts_in before)
-  pub refused : ¬ BeginDocument (texts_in before ++ row.text ∷ [])
-
--- the lines begin some document, and are none
-pub record IsUnfinished (rows : List Row) : Type 0 where
-  pub begins : BeginDocument (texts_in rows)
-  pub refused : (draft : Draft) → ¬ IsDocument (texts_in rows) draft
-
 -- the first fault of a text is at the first line with which no document continues; or, if the lines begin some document and are none, after the last
 -- line
 abbrev pub FirstFaultsEndDocuments : Type 0
 FirstFaultsEndDocuments =
     (bytes : List ℕ) (number : ℕ) (kind : LineKind) → IsFirstFault bytes number kind →
-    ((kind ≢ Ended) × IsWhereNoneGoesOn (rows_of bytes) number) ⊎ ((kind ≡ Ended) × (number ≡ end_of bytes) × IsUnfinished (rows_of bytes))
+    ((kind ≢ Ended) × IsWhereNoneGoesOn document (texts_seen (rows_of bytes)) number)
+    ⊎ ((kind ≡ Ended) × (number ≡ end_of bytes) × IsUnfinished document (texts_seen (rows_of bytes)))
 
 -- the first line with which no document continues has the first fault
 abbrev pub WhereNoneGoesOnIsFault : Type 0
-WhereNoneGoesOnIsFault = (bytes : List ℕ) (number : ℕ) → IsWhereNoneGoesOn (rows_of bytes) number → (kind : LineKind) × IsFirstFault bytes number kind
+WhereNoneGoesOnIsFault = (bytes : List ℕ) (number : ℕ) → IsWhereNoneGoesOn document (texts_seen (rows_of bytes)) number → (kind : LineKind) × IsFirstFault bytes number kind
 
 -- a text that only begins a document has its first fault after its last line
 abbrev pub UnfinishedTextsEnd : Type 0
-UnfinishedTextsEnd = (bytes : List ℕ) → IsUnfinished (rows_of bytes) → IsFirstFault bytes (end_of bytes) Ended
+UnfinishedTextsEnd = (bytes : List ℕ) → IsUnfinished document (texts_seen (rows_of bytes)) → IsFirstFault bytes (end_of bytes) Ended
 
 -- the cases of a text have one content
 abbrev pub TextsHaveOneCase : Type 0

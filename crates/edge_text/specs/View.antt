@@ -1,13 +1,11 @@
 -- What the reader's functions return, and lines as the writer appends them.
 use Rattle.std.specs.Prelude.{◌≡◌, ℕ, List, [], ◌∷◌, ◌++◌, Result, Ok, Err}
-use Rattle.text_lines.specs.Languages.{FaultAt}
-use Rattle.text_lines.specs.Lines.{Row}
+use Rattle.text_lines.specs.Faults.{FaultAt}
 use Rattle.text_lines.specs.Spelling.{line_spelt}
 use Rattle.edge_text.specs.declared.fault.LineKind.{LineKind}
 use Rattle.edge_text.specs.declared.fault.TextFault.{TextFault}
 use Rattle.edge_text.specs.declared.fault.TextFault.TheVariants as faults
-use Rattle.edge_text.specs.declared.place.Place.{Place}
-use Rattle.edge_text.specs.Faults.{IsFaultFrom}
+use Rattle.edge_text.specs.Faults.{IsFirstFault}
 use Rattle.edge_text.specs.Grammar.{Words}
 
 -- the result is this answer, its fault on the line of this number, or out of memory
@@ -24,11 +22,11 @@ GivesAll said (Err (faults.Line n kind)) = said ≡ Err (record { line = n; kind
 GivesAll said (Err (faults.Case refused)) = ⊥
 GivesAll said (Err faults.NoMemory) = Unit {0}
 
--- the first fault of these lines, from this place on, or out of memory
-abbrev pub IsFaultAt : Place → List Row → ℕ → TextFault → Type 0
-IsFaultAt place rows end (faults.Line n kind) = IsFaultFrom place rows end n kind
-IsFaultAt place rows end (faults.Case refused) = ⊥
-IsFaultAt place rows end faults.NoMemory = Unit {0}
+-- the first fault of a text, or out of memory
+abbrev pub IsFaultAt : List ℕ → TextFault → Type 0
+IsFaultAt bytes (faults.Line n kind) = IsFirstFault bytes n kind
+IsFaultAt bytes (faults.Case refused) = ⊥
+IsFaultAt bytes faults.NoMemory = Unit {0}
 
 -- a line of these words, and its end
 abbrev pub line_of : Words → List ℕ

@@ -1,9 +1,9 @@
 //! The draft that the lines of a text denote.
-ghost use Rattle.std.specs.Prelude.{◌≡◌, IfOk, IfErr};
+ghost use Rattle.std.specs.Prelude.{IfOk, IfErr};
 ghost use Rattle.text_lines.specs.Lines.{rows_of, end_of};
 ghost use Rattle.text_lines.specs.Languages.{reading};
 ghost use Rattle.edge_text.specs.declared.place.Place.TheVariants.{Alpha as AtAlpha};
-ghost use Rattle.edge_text.specs.Grammar.{IsText};
+ghost use Rattle.edge_text.specs.Document.{IsText};
 ghost use Rattle.edge_text.specs.Places.{cases};
 ghost use Rattle.edge_text.specs.View.{GivesAll, IsFaultAt};
 
@@ -29,7 +29,7 @@ fn read(alloc: Global, bytes: &[u8]) -> Result<Draft, TextFault>
 #[tactic(auto, using(crate::proofs::Texts::read_found, crate::proofs::Texts::read_fault))]
 pub fn draft(alloc: Global, bytes: &[u8]) -> Result<Draft, TextFault>
     ensures found { IfOk result (IsText bytes.now) }
-    ensures fault { IfErr result (IsFaultAt AtAlpha (rows_of bytes.now) (end_of bytes.now)) }
+    ensures fault { IfErr result (IsFaultAt bytes.now) }
 {
     read(alloc, bytes)
 }

@@ -1,6 +1,7 @@
 //! Laws of texts: each denotes one draft, or has one first fault; and canonical texts denote their cases.
 ghost use Rattle.edge_text.specs.CanonicalStatements.{CanonicalTextsReadBack, CanonicalTextsTellCasesApart, CanonicalTextsAreCanonical};
-ghost use Rattle.edge_text.specs.DocumentStatements.{DocumentsAreSaid, SaidAreDocuments, TextsCanEnd};
+ghost use Rattle.edge_text.specs.DocumentStatements.{TextsSayTheirLines, PlacesAreOfTheForm, TextsCanEnd};
+ghost use Rattle.edge_text.specs.DocumentStatements.{LinesOfNumbersAreRead, EdgesAreRead, LinesOfStagesAreRead};
 ghost use Rattle.edge_text.specs.TextStatements.{TextsSayOneDraft, TextsHaveOneFault, TextsSayOrFail, TextsDontSayAndFail};
 ghost use Rattle.edge_text.specs.TextStatements.{FirstFaultsEndDocuments, WhereNoneGoesOnIsFault, UnfinishedTextsEnd};
 ghost use Rattle.edge_text.specs.TextStatements.{TextsHaveOneCase, TextsHaveOneRefusal, FaultsArentRefusals, CasesHaveNoFault};
@@ -30,12 +31,19 @@ pub fn first_faults_end_documents()
     ensures end { UnfinishedTextsEnd }
 {}
 
-/// The lines that the reader takes from place to place are exactly the documents of the grammar, with the same drafts.
-/// From each place some text continues to its end.
+/// A text denotes what its lines say by the form of documents (`said`). From place to place the reader takes the same draft, or
+/// reports the same fault on the same line (`places`). Some document begins with each text that only ends too early (`end`).
 pub fn documents_are_read_by_places()
-    ensures said { DocumentsAreSaid }
-    ensures only { SaidAreDocuments }
+    ensures said { TextsSayTheirLines }
+    ensures places { PlacesAreOfTheForm }
     ensures end { TextsCanEnd }
+{}
+
+/// A line of each kind is read as what it says by its relation, and no other line is read as that.
+pub fn lines_are_read()
+    ensures numbers { LinesOfNumbersAreRead }
+    ensures edges { EdgesAreRead }
+    ensures stages { LinesOfStagesAreRead }
 {}
 
 /// A text has one reading: one case by its content, or one first fault, or one refusal of its draft.

@@ -1,14 +1,17 @@
 //! The text form of cases.
 //!
 //! Proved:
-//! - `read_text`: `case` (the text is a document by the grammar, `IsText`, that denotes a draft without fault, and the case has
-//!   its content). `fault` (the first line that isn't allowed, with its number and kind, `IsFirstFault`; or else the first
-//!   error in the draft, with its names).
+//! - `read_text`: `case` (the text is a document, `IsText`, that denotes a draft without fault, and the case has its content).
+//!   `fault` (the first line that isn't allowed, with its number and kind, `IsFirstFault`; or else the first error in the
+//!   draft, with its names).
 //! - `write_text`: the canonical text of a case (`canonical`, `says`).
-//! - Laws in `src/laws.rt`:
-//!   - `documents_are_read_by_places`: the reader goes from place to place, one line at a time. The lines that it takes
-//!     are exactly the documents of the grammar, with the same drafts (`said`, `only`). Each unfinished text can end
-//!     (`end`).
+//! - A document is one value, the form of its lines (`document` in `specs/Document.antt`), and a text denotes what is read by
+//!   it (`text_reading`). Laws in `src/laws.rt`:
+//!   - `documents_are_read_by_places`: a text denotes what its lines say by the form (`said`). The reader goes from place to
+//!     place, one line at a time, and takes the same draft or reports the same fault on the same line (`places`). Some document
+//!     begins with each text that only ends too early (`end`).
+//!   - `lines_are_read`: a line of each kind is read as what it says by its relation, and no other line is
+//!     (`specs/Grammar.antt`).
 //!   - A text denotes at most one draft and has at most one first fault. It has one of the two, never both.
 //!   - The first fault is exactly where no document continues.
 //!   - `canonical_texts_read_back`: the canonical text reads as the same case (`back`), distinguishes cases (`apart`), and is

@@ -52,7 +52,7 @@ named_listed steps j = any_listed steps j
 
 -- of what a form says, each p-value that arrived is of a hypothesis
 pub known_arrivals : (form : Written) (bytes : List ℕ) (d : Draft) → (grammar form bytes).Gives d → have_known_arrivals d ≡ true
-known_arrivals text bytes d t = document_arrivals _ d t
+known_arrivals text bytes d t = document_arrivals bytes d t
 known_arrivals (csv alpha) bytes d t = no_arrivals (cells_of bytes) t.0 d t.2
 known_arrivals json bytes d t = says_arrivals bytes d t
 

@@ -11,7 +11,7 @@ use Rattle.case_model.specs.declared.inputs.Inputs.TheVariants.{Bare as NoValues
 use Rattle.case_model.specs.Content.{Content, content_of}
 use Rattle.case_model.specs.declared.draft.Draft.{Draft}
 use Rattle.command_words.specs.Asked.{Written, text, csv, json}
-use Rattle.edge_text.specs.Grammar.{IsText}
+use Rattle.edge_text.specs.Document.{IsText}
 use Rattle.edge_text.specs.Faults.{IsFirstFault}
 use Rattle.edge_text.specs.declared.fault.LineKind.{LineKind}
 use Rattle.field_core.specs.View.{terms}

@@ -1,12 +1,10 @@
 -- What texts and sheets say has edges with a coefficient for each power.
 use Rattle.std.proofs.Common.{◌≡◌, refl, sym, ap, ap₂, ◌∙◌, ℕ, ◌+◌, ◌==◌, ◌&&◌, Bool, true, false, cond}
-use Rattle.std.proofs.Common.{List, [], ◌∷◌, ◌++◌, drop, length, Ok, inl, inr}
-use Rattle.std.specs.List.{AllZip, list_all}
+use Rattle.std.proofs.Common.{List, [], ◌∷◌, ◌++◌, drop, length, Ok}
+use Rattle.std.specs.List.{list_all}
 use Rattle.field_core.proofs.Results.{came_from, same_value, value_told}
 use Rattle.field_core.specs.declared.ratio.Ratio.{Ratio}
 use Rattle.case_model.specs.declared.draft.Draft.{Draft}
-use Rattle.case_model.specs.declared.draft_component.DraftComponent.{DraftComponent}
-use Rattle.case_model.specs.declared.draft_edge.DraftEdge.{DraftEdge}
 use Rattle.case_model.specs.Entries.{is_whole_entry}
 use Rattle.case_model.proofs.Holding.{both}
 use Rattle.case_csv.specs.Answers.{at}
@@ -14,7 +12,8 @@ use Rattle.case_csv.specs.Table.{Cells, RowSaid, SheetSaid, edge_of, start_of, e
 use Rattle.case_csv.specs.Table.{table_edges, draft_of, IsTable}
 use Rattle.case_csv.specs.declared.fault.RowKind.TheVariants.{Expr}
 use Rattle.edge_text.specs.CanonicalText.{is_absent}
-use Rattle.edge_text.specs.Grammar.{IsEdgeLine, IsSharedBlock, AreBlocks, IsText}
+use Rattle.edge_text.specs.Document.{IsText}
+use Rattle.edge_text.proofs.Texts.{edges_pass, text_edges}
 use Rattle.entries.specs.Entries.{entry_of}
 use Rattle.entries.proofs.Entries.{entry_is}
 use Rattle.printed.proofs.WholeDrafts.{whole_edge, whole_component, IsWhole}
@@ -22,31 +21,9 @@ use Rattle.printed.proofs.WholeValues.{entry_whole}
 
 -- ---- texts
 
-edges_whole : (names : List (List ℕ)) (lines : List (List ℕ)) (edges : List DraftEdge) → AllZip (IsEdgeLine names) lines edges
-    → list_all whole_edge edges ≡ true
-edges_whole names [] [] h = refl
-edges_whole names [] (edge ∷ edges) h = absurd h
-edges_whole names (line ∷ lines) [] h = absurd h
-edges_whole names (line ∷ lines) (edge ∷ edges) h =
-    ap₂ (λ x y. x && y) (entry_whole _ edge.entry h.0.are.says) (edges_whole names lines edges h.1)
-
-blocks_whole : (names : List (List ℕ)) (blocks : List (List (List ℕ))) (ks : List DraftComponent) → AllZip (IsSharedBlock names) blocks ks
-    → list_all whole_component ks ≡ true
-blocks_whole names [] [] h = refl
-blocks_whole names [] (k ∷ ks) h = absurd h
-blocks_whole names (b ∷ bs) [] h = absurd h
-blocks_whole names (b ∷ bs) (k ∷ ks) h =
-    ap₂ (λ x y. x && y) (edges_whole names h.0.block.edge_lines k.edges h.0.block.edges) (blocks_whole names bs ks h.1)
-
-components_whole : (names : List (List ℕ)) (lines : List (List ℕ)) (ks : List DraftComponent) → AreBlocks names lines ks
-    → list_all whole_component ks ≡ true
-components_whole names lines ks (inl lone) =
-    ap (list_all whole_component) lone.only
-    ∙ ap (λ b. b && true) (edges_whole names lone.block.edge_lines lone.component.edges lone.block.edges)
-components_whole names lines ks (inr shared) = blocks_whole names shared.blocks ks shared.are
-
 pub text_whole : (bytes : List ℕ) (d : Draft) → IsText bytes d → IsWhole d
-text_whole bytes d h = components_whole d.names h.block_lines d.components h.blocks
+text_whole bytes d h =
+    edges_pass whole_edge d.components (text_edges bytes d (λ e. whole_edge e ≡ true) h (λ line e said. entry_whole _ e.entry said.are.says))
 
 -- ---- sheets
 
