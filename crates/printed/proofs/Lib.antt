@@ -2,6 +2,7 @@ pub mod BoundsPrinted
 pub mod CanonReadBack
 pub mod CataloguePrinted
 pub mod FilledCases
+pub mod GateCases
 pub mod NamedGraphs
 pub mod RuleTests
 pub mod RulesDecide

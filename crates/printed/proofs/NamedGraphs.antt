@@ -9,6 +9,7 @@ use Rattle.case_model.specs.Content.{Content, content_of, has_coefficients}
 use Rattle.case_model.specs.Sums.{one_ratio, zero_ratio}
 use Rattle.case_model.specs.Draft.{ArePValues}
 use Rattle.case_model.specs.Validity.{IsValidContent}
+use Rattle.case_model.specs.declared.draft_edge.DraftEdge.{DraftEdge}
 use Rattle.case_model.specs.declared.inputs.Inputs.TheVariants.{Bare}
 use Rattle.catalogue.proofs.AloneCases.{is_made}
 use Rattle.catalogue.proofs.KnownEnds.{all_flat, known_arrivals}
@@ -43,15 +44,16 @@ either_whole : (t : Bool) (o p : Option (List Ratio)) → IsWholeEdge o → IsWh
 either_whole true o p h k = h
 either_whole false o p h k = k
 
-module _ (G : WeightedGraph) (whole : (i j : ℕ) → IsWholeEdge (G.edge i j)) where
-  edges_whole : list_all whole_edge (edges_of G) ≡ true
-  unfolding edges_of edges_from
-  edges_whole = all_flat whole_edge (edges_from G) 0 G.size G.size (omega arith) (λ i h.
-      all_flat whole_edge (edge_in G i) 0 G.size G.size (omega arith) (λ j g. whole i j i j))
+-- what each edge of a graph has, the edges of its draft have
+pub all_edges : (test : DraftEdge → Bool) (G : WeightedGraph) → ((i j : ℕ) → list_all test (edge_in G i j) ≡ true) → list_all test (edges_of G) ≡ true
+unfolding edges_of edges_from
+all_edges test G each = all_flat test (edges_from G) 0 G.size G.size (omega arith) (λ i h.
+    all_flat test (edge_in G i) 0 G.size G.size (omega arith) (λ j g. each i j))
 
+module _ (G : WeightedGraph) (whole : (i j : ℕ) → IsWholeEdge (G.edge i j)) where
   pub graph_whole : (alpha : Ratio) (ps : List Ratio) → IsWhole (draft_of G alpha ps)
   unfolding draft_of
-  graph_whole alpha ps = ap (λ b. b && true) edges_whole
+  graph_whole alpha ps = ap (λ b. b && true) (all_edges whole_edge G (λ i j. whole i j i j))
 
 chain_whole : (i j : ℕ) → IsWholeEdge (next_edge i j)
 chain_whole i j = either_whole (j == suc i) (Some (constant one_ratio)) None (linear_whole one_ratio zero_ratio) none_whole

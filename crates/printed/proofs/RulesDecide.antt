@@ -1,5 +1,5 @@
--- On the cases of Holm's graph, of fixed sequences and of fallback the closed test decides as the rules, and nothing is too wide.
-use Rattle.std.proofs.Common.{◌≡◌, refl, sym, ap, subst, ◌∙◌, ℕ, suc, ◌-◌, ◌==◌, ◌<◌, ◌≤◌, ◌||◌, ◌↔◌, Bool, true, false, cond}
+-- On the cases of Holm's graph, of fixed sequences, of fallback and of parallel gatekeeping the closed test decides as the rules, and nothing is too wide.
+use Rattle.std.proofs.Common.{◌≡◌, refl, sym, ap, subst, ◌∙◌, ℕ, suc, ◌+◌, ◌-◌, ◌==◌, ◌<◌, ◌≤◌, ◌||◌, ◌↔◌, Bool, true, false, cond}
 use Rattle.std.proofs.Common.{List, [], length, Some, None, Ok, pos, arith, lit<}
 use Rattle.std.specs.Prelude.{nat_lt}
 use Rattle.std.proofs.lemmas.Bool.Decides.{nat_tests}
@@ -30,16 +30,19 @@ use Rattle.case_model.proofs.ValidContents.{valid_content, shape}
 use Rattle.catalogue.proofs.PlainCases.{holm_plain, sequence_plain, fallback_plain_case}
 use Rattle.catalogue.proofs.RatiosOf.{part_value}
 use Rattle.catalogue.proofs.Textbooks.{few_are_short, holm_made, sequence_made, fallback_made}
-use Rattle.catalogue.specs.Makings.{made, holm_case, sequence_case, fallback_case}
-use Rattle.catalogue.specs.NamedGraphs.{part, holm_graph, sequence_graph, fallback_graph, equal_weights}
-use Rattle.catalogue.specs.Sizes.{size_fault}
+use Rattle.catalogue.specs.Makings.{made, holm_case, sequence_case, fallback_case, parallel_case}
+use Rattle.catalogue.specs.NamedGraphs.{part, holm_graph, sequence_graph, fallback_graph, parallel_graph, equal_weights}
+use Rattle.catalogue.specs.Sizes.{size_fault, sizes_fault}
 use Rattle.catalogue.specs.WeightedGraphs.{draft_of, name_of}
 use Rattle.catalogue.specs.declared.fault.CatalogueFault.TheVariants.{Size}
 use Rattle.command_words.specs.declared.graph_name.SizedGraph.{SizedGraph}
 use Rattle.command_words.specs.declared.graph_name.SizedGraph.TheVariants.{Holm, FixedSequence, Fallback, Parallel, ImprovedParallel}
 use Rattle.graph_cli.specs.Graphs.{named_case}
-use Rattle.textbook.proofs.NeverWide.{holm_decisions, sequence_decisions, fallback_decisions}
+use Rattle.textbook.specs.Gatekeeping.{IsGatekeepingGraph, IsGatekeepingRejected}
+use Rattle.textbook.proofs.GateOrders.{gatekeeping_decides}
+use Rattle.textbook.proofs.NeverWide.{holm_decisions, sequence_decisions, fallback_decisions, gatekeeping_decisions}
 use Rattle.printed.specs.Catalogue.{graph_size, twentieth, with_p_values, HasItsRule}
+use Rattle.printed.proofs.GateCases.{parallel_made, parallel_plain}
 use Rattle.printed.proofs.RuleTests.{decides_by}
 use Rattle.printed.proofs.NamedGraphs.{IsNamedCase, behind_is}
 
@@ -163,9 +166,31 @@ module _ (n : ℕ) (c : Content) (N : IsNamedCase n c) where
             (subst (λ k. IsFallbackGraph (λ i. fraction (pos 1) (pos k)) (entangled c)) next A))),
       )
 
+-- ---- parallel gatekeeping
+
+parallel_rule : (a b : ℕ) (c : Content) → IsNamedCase (a + b) c → named_case (Parallel a b) ≡ Ok c → HasItsRule (Parallel a b) c
+unfolding named_case parallel_case
+parallel_rule a b c N h =
+    let B = behind_is (sizes_fault a b) (made (draft_of (parallel_graph a b) (part 20) [])) c h in
+    let few = few_families a b c N in
+    let A = parallel_made a b few (part 20) [] c B.is in
+    let plain = parallel_plain a b (part 20) [] c B.is in (
+      A,
+      decides_by (λ p. IsGatekeepingRejected p twentieth a b) c (few_names (a + b) c N few)
+          (λ ps P. let V = N.filled ps P in
+          carried c ps V (λ l k j. IsGatekeepingRejected (number_at ps) l a b j) (a + b) (size_is (a + b) c N) (level_is (a + b) c N)
+          (gatekeeping_decides (number_at ps) (number_of c.alpha) a b (entangled c) (graph_valid c ps V) A (low c ps V)))
+          (λ ps P. let V = N.filled ps P in
+          gatekeeping_decisions (with_p_values ps c) a b V (same_plain c ps V plain) (subst (IsGatekeepingGraph a b) (sym (same_graph c ps V)) A)),
+    )
+  where
+    few_families : (a b : ℕ) (c : Content) → IsNamedCase (a + b) c → a + b ≤ 64
+    few_families a b c N =
+        subst (λ k. k ≤ 64) (ap length N.names ∙ length-map-range_with_len name_of 0 (a + b)) (shape c N.valid).few
+
 pub has_rule : (graph : SizedGraph) (c : Content) → IsNamedCase (graph_size graph) c → named_case graph ≡ Ok c → HasItsRule graph c
 has_rule (Holm n) c N h = holm_rule n c N h
 has_rule (FixedSequence n) c N h = sequence_rule n c N h
 has_rule (Fallback n) c N h = fallback_rule n c N h
-has_rule (Parallel a b) c N h = tt
+has_rule (Parallel a b) c N h = parallel_rule a b c N h
 has_rule (ImprovedParallel a b) c N h = tt

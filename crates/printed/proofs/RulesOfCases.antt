@@ -19,10 +19,12 @@ use Rattle.case_model.proofs.SequenceOrders.{sequence_decides}
 use Rattle.case_model.proofs.Thresholds.{good_level}
 use Rattle.case_model.proofs.ValidContents.{valid_content, shape}
 use Rattle.command_words.specs.Asked.{Written}
-use Rattle.textbook.proofs.NeverWide.{holm_decisions, sequence_decisions, fallback_decisions}
+use Rattle.textbook.specs.Gatekeeping.{IsGatekeepingRejected}
+use Rattle.textbook.proofs.GateOrders.{gatekeeping_decides}
+use Rattle.textbook.proofs.NeverWide.{holm_decisions, sequence_decisions, fallback_decisions, gatekeeping_decisions}
 use Rattle.graph_cli.specs.Accepted.{case_in}
 use Rattle.graph_cli.proofs.ClosedReports.{known_arrivals, faultless_content}
-use Rattle.printed.specs.Rules.{over, HolmGraphsAreTestedByHolm, SequencesAreTestedInOrder, FallbacksAreTestedByFallback}
+use Rattle.printed.specs.Rules.{over, HolmGraphsAreTestedByHolm, SequencesAreTestedInOrder, FallbacksAreTestedByFallback, GatesAreTestedByGatekeeping}
 use Rattle.printed.proofs.RuleTests.{tested}
 
 -- a case that bytes denote is valid
@@ -68,3 +70,11 @@ fallback_tested w d small words form priority bytes proof c ps a g within single
     (fallback_decides (number_at ps) (number_of c.alpha) (over w d) (entangled c) (valid_content c V) A
     (λ i p. limit-fraction (pos (w i)) (pos (suc d)) (λ e. omega (arith, ints))) (low c ps single V)))
     (fallback_decisions c w d V plain small A) words form priority bytes proof a g within asks h
+
+pub gates_tested : GatesAreTestedByGatekeeping
+gates_tested a b words form priority bytes proof c ps answer g within single plain A asks h =
+    let V = given_valid form bytes c g in
+    tested _ c ps single (shape c V).few
+    (in_case c ps single V (λ n j. IsGatekeepingRejected (number_at ps) (number_of c.alpha) a b j)
+    (gatekeeping_decides (number_at ps) (number_of c.alpha) a b (entangled c) (valid_content c V) A (low c ps single V)))
+    (gatekeeping_decisions c a b V plain A) words form priority bytes proof answer g within asks h

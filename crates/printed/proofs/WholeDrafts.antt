@@ -1,13 +1,15 @@
--- The edges of what is read have a coefficient for each power from 0 to 4, and so have the tables of the case.
+-- What each edge of a draft has, each entry of the tables of its case has. So the tables have a coefficient for each power from 0 to 4 if the edges have, and
+-- they are without epsilon if the edges are.
 use Rattle.std.proofs.Common.{◌≡◌, refl, ap₂, ℕ, zero, suc, ◌+◌, ◌*◌, ◌/◌, ◌%◌, ◌&&◌, Bool, true, false, cond}
 use Rattle.std.proofs.Common.{List, [], ◌∷◌, map, length, Option, Some}
 use Rattle.std.specs.List.{list_all, find, range_with_len}
+use Rattle.field_core.specs.declared.ratio.Ratio.{Ratio}
 use Rattle.case_model.specs.declared.draft.Draft.{Draft}
 use Rattle.case_model.specs.declared.draft_component.DraftComponent.{DraftComponent}
 use Rattle.case_model.specs.declared.draft_edge.DraftEdge.{DraftEdge}
-use Rattle.case_model.specs.Content.{content_of, edge_between, table_of, tabled, has_coefficients}
+use Rattle.case_model.specs.Content.{content_of, edge_between, table_of, tabled, has_coefficients, is_plain}
 use Rattle.case_model.specs.Draft.{has_ends}
-use Rattle.case_model.specs.Entries.{is_whole_entry}
+use Rattle.case_model.specs.Entries.{is_whole_entry, is_plain_entry, no_edge}
 use Rattle.case_model.proofs.Holding.{both}
 use Rattle.catalogue.proofs.PlainCases.{entry_found}
 
@@ -23,36 +25,56 @@ whole_component k = list_all whole_edge k.edges
 abbrev pub IsWhole : Draft → Type 0
 IsWhole d = list_all whole_component d.components ≡ true
 
-first_whole : (t : Bool) (e : DraftEdge) (o : Option DraftEdge) → whole_edge e ≡ true → is_whole_entry (entry_found o) ≡ true
-    → is_whole_entry (entry_found (cond t (Some e) o)) ≡ true
-first_whole true e o h g = h
-first_whole false e o h g = g
+module _ (test : List Ratio → Bool) (none : test no_edge ≡ true) where
+  -- an edge has an entry that passes the test
+  abbrev edge_passes : DraftEdge → Bool
+  edge_passes e = test e.entry
 
-found_whole : (p : DraftEdge → Bool) (es : List DraftEdge) → list_all whole_edge es ≡ true → is_whole_entry (entry_found (find p es)) ≡ true
-found_whole p [] h = refl
-found_whole p (e ∷ es) h = let b = both (whole_edge e) (list_all whole_edge es) h in first_whole (p e) e (find p es) b.left (found_whole p es b.right)
+  first_passes : (t : Bool) (e : DraftEdge) (o : Option DraftEdge) → edge_passes e ≡ true → test (entry_found o) ≡ true
+      → test (entry_found (cond t (Some e) o)) ≡ true
+  first_passes true e o h g = h
+  first_passes false e o h g = g
 
-between_whole : (es : List DraftEdge) (i j : ℕ) → list_all whole_edge es ≡ true → is_whole_entry (edge_between es i j) ≡ true
-unfolding edge_between
-between_whole es i j h = found_whole (has_ends i j) es h
+  found_passes : (p : DraftEdge → Bool) (es : List DraftEdge) → list_all edge_passes es ≡ true → test (entry_found (find p es)) ≡ true
+  found_passes p [] h = none
+  found_passes p (e ∷ es) h =
+      let b = both (edge_passes e) (list_all edge_passes es) h in first_passes (p e) e (find p es) b.left (found_passes p es b.right)
 
-all_mapped : {A : Type 0} (test : A → Bool) (f : ℕ → A) (a n : ℕ)
-    → ((k : ℕ) → test (f k) ≡ true) → list_all test (map f (range_with_len a n)) ≡ true
-all_mapped test f a zero h = refl
-all_mapped test f a (suc n) h = ap₂ (λ x y. x && y) (h a) (all_mapped test f (a + 1) n h)
+  between_passes : (es : List DraftEdge) (i j : ℕ) → list_all edge_passes es ≡ true → test (edge_between es i j) ≡ true
+  unfolding edge_between
+  between_passes es i j h = found_passes (has_ends i j) es h
 
-table_whole : (m : ℕ) (es : List DraftEdge) → list_all whole_edge es ≡ true → list_all is_whole_entry (table_of m es) ≡ true
-unfolding table_of
-table_whole m es h = all_mapped is_whole_entry (λ k. edge_between es (k / m) (k % m)) 0 (m * m) (λ k. between_whole es (k / m) (k % m) h)
+  all_mapped : (f : ℕ → List Ratio) (a n : ℕ) → ((k : ℕ) → test (f k) ≡ true) → list_all test (map f (range_with_len a n)) ≡ true
+  all_mapped f a zero h = refl
+  all_mapped f a (suc n) h = ap₂ (λ x y. x && y) (h a) (all_mapped f (a + 1) n h)
 
-tables_whole : (m : ℕ) (ks : List DraftComponent) → list_all whole_component ks ≡ true
-    → list_all (λ k. list_all is_whole_entry k.edges) (map (tabled m) ks) ≡ true
-tables_whole m [] h = refl
-tables_whole m (k ∷ ks) h =
-    let b = both (whole_component k) (list_all whole_component ks) h in
-    ap₂ (λ x y. x && y) (table_whole m k.edges b.left) (tables_whole m ks b.right)
+  table_passes : (m : ℕ) (es : List DraftEdge) → list_all edge_passes es ≡ true → list_all test (table_of m es) ≡ true
+  unfolding table_of
+  table_passes m es h = all_mapped (λ k. edge_between es (k / m) (k % m)) 0 (m * m) (λ k. between_passes es (k / m) (k % m) h)
+
+  tables_pass : (m : ℕ) (ks : List DraftComponent) → list_all (λ (k : DraftComponent). list_all edge_passes k.edges) ks ≡ true
+      → list_all (λ k. list_all test k.edges) (map (tabled m) ks) ≡ true
+  tables_pass m [] h = refl
+  tables_pass m (k ∷ ks) h =
+      let b = both (list_all edge_passes k.edges) (list_all (λ (k : DraftComponent). list_all edge_passes k.edges) ks) h in
+      ap₂ (λ x y. x && y) (table_passes m k.edges b.left) (tables_pass m ks b.right)
 
 -- the tables of a draft with such edges have such entries
 pub whole_content : (d : Draft) → IsWhole d → has_coefficients (content_of d).components ≡ true
 unfolding has_coefficients content_of
-whole_content d h = tables_whole (length d.names) d.components h
+whole_content d h = tables_pass is_whole_entry refl (length d.names) d.components h
+
+-- ---- without epsilon
+
+-- an edge without coefficients above power 0
+abbrev pub plain_edge : DraftEdge → Bool
+plain_edge e = is_plain_entry e.entry
+
+no_edge_plain : is_plain_entry no_edge ≡ true
+unfolding is_plain_entry
+no_edge_plain = refl
+
+-- a draft with such edges has a case without epsilon
+pub plain_content : (d : Draft) → list_all (λ (k : DraftComponent). list_all plain_edge k.edges) d.components ≡ true → is_plain (content_of d) ≡ true
+unfolding is_plain content_of
+plain_content d h = tables_pass is_plain_entry no_edge_plain (length d.names) d.components h

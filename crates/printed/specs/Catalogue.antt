@@ -22,6 +22,7 @@ use Rattle.command_words.specs.declared.graph_name.SizedGraph.{SizedGraph}
 use Rattle.command_words.specs.declared.graph_name.SizedGraph.TheVariants.{Holm, FixedSequence, Fallback, Parallel, ImprovedParallel}
 use Rattle.sequential.specs.declared.priority.Priority.{Priority}
 use Rattle.textbook.specs.DefinedDecisions.{IsNeverWide}
+use Rattle.textbook.specs.Gatekeeping.{IsGatekeepingGraph, IsGatekeepingRejected}
 use Rattle.graph_cli.specs.Accepted.{case_in}
 use Rattle.graph_cli.specs.Graphs.{named_case}
 use Rattle.graph_cli.specs.Outcome.{AskFor, outcome}
@@ -58,13 +59,13 @@ pub record DecidesBy (Rejects : (ℕ → Number) → ℕ → Type 0) (c : Conten
   pub never_wide : (ps : List Ratio) → ArePValues (length c.names) ps → IsNeverWide (with_p_values ps c)
   pub tested : IsTestedBy Rejects c
 
--- The case has the graph of the textbooks, and is decided by their rule at the level 1/20. Fallback has equal weights. The gatekeeping graphs have no
--- such rule.
+-- The case has the graph of the textbooks, and is decided by their rule at the level 1/20. Fallback has equal weights. Improved parallel gatekeeping has no
+-- such rule here: what comes back to the primary hypotheses is divided by how many secondary ones lead to each of them.
 abbrev pub HasItsRule : SizedGraph → Content → Type 0
 HasItsRule (Holm n) c = IsHolmGraph (entangled c) × DecidesBy (λ p. IsHolmRejected p twentieth n) c
 HasItsRule (FixedSequence n) c = IsSequenceGraph (entangled c) × DecidesBy (λ p. IsSequenceRejected p twentieth n) c
 HasItsRule (Fallback n) c = IsFallbackGraph (λ i. one_over n) (entangled c) × DecidesBy (λ p. IsFallbackRejected p twentieth n (λ i. one_over n)) c
-HasItsRule (Parallel a b) c = Unit {0}
+HasItsRule (Parallel a b) c = IsGatekeepingGraph a b (entangled c) × DecidesBy (λ p. IsGatekeepingRejected p twentieth a b) c
 HasItsRule (ImprovedParallel a b) c = Unit {0}
 
 -- The text is read as the case of a named graph: with its size, its weights and edges, at the level 1/20, and without p-values. With a p-value for

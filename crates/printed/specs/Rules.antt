@@ -20,6 +20,7 @@ use Rattle.report.specs.TestReport.{is_rejected, test_report}
 use Rattle.sequential.specs.Decisions.{IsDecision}
 use Rattle.sequential.specs.declared.decision.Decision.{Decision}
 use Rattle.sequential.specs.declared.priority.Priority.{Priority}
+use Rattle.textbook.specs.Gatekeeping.{IsGatekeepingGraph, IsGatekeepingRejected}
 use Rattle.graph_cli.specs.Accepted.{case_in}
 use Rattle.graph_cli.specs.Outcome.{AskFor, outcome}
 
@@ -62,3 +63,9 @@ FallbacksAreTestedByFallback =
     (a : ℕ → ℕ) (d : ℕ) → d < 100000000
     → AreTestedBy (λ c. IsFallbackGraph (over a d) (entangled c))
     (λ c ps. IsFallbackRejected (number_at ps) (number_of c.alpha) (length c.names) (over a d))
+
+-- on the graph of parallel gatekeeping with `a` primary and `b` secondary hypotheses it rejects what parallel gatekeeping rejects
+abbrev pub GatesAreTestedByGatekeeping : Type 0
+GatesAreTestedByGatekeeping =
+    (a b : ℕ)
+    → AreTestedBy (λ c. IsGatekeepingGraph a b (entangled c)) (λ c ps. IsGatekeepingRejected (number_at ps) (number_of c.alpha) a b)

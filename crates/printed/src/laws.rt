@@ -3,6 +3,7 @@ ghost use Rattle.printed.specs.Bounds.{BoundsAreOfTheClosedTest};
 ghost use Rattle.printed.specs.Canon.{CanonIsReadAsTheCase, CanonTellsCasesApart};
 ghost use Rattle.printed.specs.Catalogue.{CatalogueIsOfTheNamedGraphs};
 ghost use Rattle.printed.specs.Rules.{HolmGraphsAreTestedByHolm, SequencesAreTestedInOrder, FallbacksAreTestedByFallback};
+ghost use Rattle.printed.specs.Rules.{GatesAreTestedByGatekeeping};
 ghost use Rattle.printed.specs.Simes.{SimesReportsAreOfTheSimesTest};
 ghost use Rattle.printed.specs.Stages.{StagesAgreeInEveryOrder};
 ghost use Rattle.printed.specs.Study.{StudiesAreOfTheStagedTest};
@@ -39,12 +40,13 @@ pub fn catalogue_is_of_the_named_graphs()
 {}
 
 /// On the graph of a textbook rule, `test` ends with status 0 and names exactly what the rule rejects at the level of the case.
-/// The case is any one with p-values and with fractions alone. The graph is Holm's, a fixed sequence, or a fallback graph whose
-/// weights have a common denominator of at most 100,000,000.
+/// The case is any one with p-values and with fractions alone. The graph is Holm's, a fixed sequence, that of parallel
+/// gatekeeping, or a fallback graph whose weights have a common denominator of at most 100,000,000.
 pub fn textbook_graphs_are_tested_by_their_rules()
     ensures holm { HolmGraphsAreTestedByHolm }
     ensures sequence { SequencesAreTestedInOrder }
     ensures fallback { FallbacksAreTestedByFallback }
+    ensures gatekeeping { GatesAreTestedByGatekeeping }
 {}
 
 /// What `stages` prints with status 0 of two cases that differ at most in the order of their arrivals has one line `rejected`.

@@ -12,12 +12,12 @@
 //! - `bounds_are_of_the_closed_test`: what `bounds` prints has one line for each set that isn't empty, with its bound by the
 //!   closed test. If the closed test doesn't reject the set of the true hypotheses, no bound is above the number of false
 //!   hypotheses in its set.
-//! - `catalogue_is_of_the_named_graphs`: what `catalogue` prints is read as the case of the named graph. On Holm's graph, on
-//!   fixed sequences and on fallback with equal weights, by whatever p-values, the closed test rejects exactly what the
-//!   textbook rule rejects. `test` on the case with these p-values ends with status 0 and names exactly these hypotheses.
-//! - `textbook_graphs_are_tested_by_their_rules`: on a case with p-values and with fractions alone, whose graph is Holm's, a
-//!   fixed sequence or a fallback graph, `test` ends with status 0. It names exactly what the textbook rule rejects at the level
-//!   of the case.
+//! - `catalogue_is_of_the_named_graphs`: what `catalogue` prints is read as the case of the named graph. On all of them but that
+//!   of improved parallel gatekeeping, by whatever p-values, the closed test rejects exactly what the textbook rule rejects.
+//!   `test` on the case with these p-values ends with status 0 and names exactly these hypotheses. Fallback has equal weights.
+//! - `textbook_graphs_are_tested_by_their_rules`: a case has p-values and fractions alone, and its graph is Holm's, a fixed
+//!   sequence, a fallback graph or that of parallel gatekeeping. On it `test` ends with status 0 and names exactly what the
+//!   textbook rule rejects at the level of the case.
 //! - `stages_agree_in_every_order`: two cases that differ at most in the order of their arrivals have one line `rejected`.
 //! - `studies_are_of_the_staged_test`: what `study` prints is the report of the replies to its commands. Each line `show`
 //!   names exactly what the staged closed test rejects on the looks that are kept by then. The lines `reject` after a look

@@ -8,3 +8,7 @@ pub mod ShortRemovals
 pub mod ShortRuns
 pub mod ChainSums
 pub mod SequenceRuns
+pub mod GateShares
+pub mod GateLeft
+pub mod GateOrders
+pub mod GateRuns

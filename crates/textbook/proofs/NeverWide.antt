@@ -1,5 +1,5 @@
 -- Decisions and adjusted values on the graphs of textbook rules are never too wide.
-use Rattle.std.proofs.Common.{◌≡◌, refl, sym, ap, ◌∙◌, subst, inl, inr, ℕ, zero, suc, ◌≤◌, ◌<◌, arith, lit<, pos, Bool, true, List, []}
+use Rattle.std.proofs.Common.{◌≡◌, refl, sym, ap, ◌∙◌, subst, inl, inr, ℕ, zero, suc, ◌+◌, ◌≤◌, ◌<◌, arith, lit<, pos, Bool, true, List, []}
 use Rattle.std.proofs.Common.{◌∷◌, ◌++◌, length, Some, None, Result, Ok, Err}
 use Rattle.field_core.specs.Fractions.{fraction, one_over}
 use Rattle.field_core.specs.Number.{Number}
@@ -38,7 +38,8 @@ use Rattle.field_core.proofs.Chains.{chain_left, chain_closed}
 use Rattle.field_core.proofs.EqualShares.{equal_left, equal_closed}
 use Rattle.field_core.proofs.UnitFractions.{one_over_parts}
 use Rattle.textbook.specs.TextbookRuns.{Stores, total}
-use Rattle.textbook.specs.DefinedDecisions.{AreDecisionsDefined, IsNeverWide, HolmDecisionsAreDefined, SequenceDecisionsAreDefined, FallbackDecisionsAreDefined}
+use Rattle.textbook.specs.DefinedDecisions.{AreDecisionsDefined, IsNeverWide, HolmDecisionsAreDefined, SequenceDecisionsAreDefined, FallbackDecisionsAreDefined, GatekeepingDecisionsAreDefined}
+use Rattle.textbook.specs.Gatekeeping.{gatekeeping_graph, IsGatekeepingGraph}
 use Rattle.textbook.proofs.ShortRemovals.{IsDefined}
 use Rattle.textbook.proofs.CaseRuns.{net, net_stores, net_size, case_defined}
 use Rattle.adjusted_p.specs.WrittenRun.{IsWideAdjusting}
@@ -48,6 +49,8 @@ use Rattle.textbook.proofs.HolmRuns.{holm_removals, weight_short}
 use Rattle.textbook.proofs.ChainRuns.{fallback_removals, weight_short as chain_short}
 use Rattle.textbook.proofs.ChainSums.{sum_at_most}
 use Rattle.textbook.proofs.SequenceRuns.{first_part, first_weight}
+use Rattle.textbook.proofs.GateLeft.{left, left_closed, gate_start}
+use Rattle.textbook.proofs.GateRuns.{gatekeeping_removals, weight_short as gate_short}
 
 -- ---- one removal more
 
@@ -202,3 +205,25 @@ pub sequence_decisions : SequenceDecisionsAreDefined
 sequence_decisions c V P A =
     fallback_decisions c first_part 0 V P (omega arith)
     (record { one = A.one; share = A.share; weight = λ i b. A.weight i b ∙ first_weight i; edge = A.edge })
+
+module _ (a b : ℕ) where
+  gatekeeping_steps : (c : Content) → IsValidContent c → is_plain c ≡ true → IsGatekeepingGraph a b (entangled c) → AreDecisionsDefined c
+  gatekeeping_steps c V P F =
+      let m = length c.names in
+      let G = gatekeeping_graph a b in
+      let families : m ≡ a + b = sym (hypotheses_are c) ∙ F.families in
+      let within : a ≤ m = omega (arith, families) in
+      let S = (net c V P G F.graph).0 in
+      let removals = gatekeeping_removals S a b (net_size c V P G F.graph ∙ families) (net_stores c V P G F.graph) in
+      never_wide c (case_defined c V P G F.graph removals.1) V
+      (ratios_defined c V G F.graph (left a m within) (left_closed a m within) (gate_start a b m families within) 4096 (lit< tt)
+      (gate_short a m within (shape c V).few))
+
+  other_gates : (c : Content) → IsGatekeepingGraph a b (entangled c) → IsGatekeepingGraph a b (entangled (at_level c one_ratio))
+  other_gates c F = subst (IsGatekeepingGraph a b) (same_graph c one_ratio) F
+
+  gates_never_wide : (c : Content) → IsValidContent c → is_plain c ≡ true → IsGatekeepingGraph a b (entangled c) → IsNeverWide c
+  gates_never_wide = both_defined (λ c. IsGatekeepingGraph a b (entangled c)) other_gates gatekeeping_steps
+
+pub gatekeeping_decisions : GatekeepingDecisionsAreDefined
+gatekeeping_decisions c a b V P A = gates_never_wide a b c V P A

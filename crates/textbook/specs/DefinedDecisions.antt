@@ -8,6 +8,7 @@ use Rattle.case_model.specs.Validity.{IsValidContent}
 use Rattle.sequential.specs.WideDecisions.{IsWideDecision}
 use Rattle.sequential.specs.declared.priority.Priority.{Priority}
 use Rattle.adjusted_p.specs.WrittenRun.{IsWideAdjusting}
+use Rattle.textbook.specs.Gatekeeping.{IsGatekeepingGraph}
 
 -- By whatever priority, no operation of the decision is undefined.
 abbrev pub AreDecisionsDefined : Content → Type 0
@@ -31,3 +32,8 @@ FallbackDecisionsAreDefined =
 -- Cases of the fixed sequence are never too wide.
 abbrev pub SequenceDecisionsAreDefined : Type 0
 SequenceDecisionsAreDefined = (c : Content) → IsValidContent c → is_plain c ≡ true → IsSequenceGraph (entangled c) → IsNeverWide c
+
+-- Cases of parallel gatekeeping are never too wide.
+abbrev pub GatekeepingDecisionsAreDefined : Type 0
+GatekeepingDecisionsAreDefined =
+    (c : Content) (a b : ℕ) → IsValidContent c → is_plain c ≡ true → IsGatekeepingGraph a b (entangled c) → IsNeverWide c

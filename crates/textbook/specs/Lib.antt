@@ -1,2 +1,3 @@
 pub mod DefinedDecisions
 pub mod TextbookRuns
+pub mod Gatekeeping

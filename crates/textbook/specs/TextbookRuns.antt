@@ -15,6 +15,7 @@ use Rattle.removal.specs.WrittenRemoval.{written_removal}
 use Rattle.removal.specs.InTurn.{removed_in_turn}
 use Rattle.entangled.specs.Bundled.{Bundled}
 use Rattle.entangled.specs.BundleRun.{opened_after}
+use Rattle.textbook.specs.Gatekeeping.{gatekeeping_graph}
 
 -- all hypotheses remain, all numbers are fractions in lowest terms, and by value they are those of `G`
 pub record Stores (G : Graph Number) (S : StoredGraph) : Type 0 where
@@ -51,3 +52,8 @@ FallbackRemovalsAreDefined =
 -- On the chain of a fixed sequence no removal is refused.
 abbrev pub SequenceRemovalsAreDefined : Type 0
 SequenceRemovalsAreDefined = (S : StoredGraph) → Stores (chain_graph first_alone) S → IsNeverRefused S × IsNeverRefusedAlone S
+
+-- On the graph of parallel gatekeeping no removal is refused.
+abbrev pub GatekeepingRemovalsAreDefined : Type 0
+GatekeepingRemovalsAreDefined =
+    (S : StoredGraph) (a b : ℕ) → size S ≡ a + b → Stores (gatekeeping_graph a b) S → IsNeverRefused S × IsNeverRefusedAlone S

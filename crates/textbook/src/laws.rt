@@ -1,14 +1,18 @@
 //! Laws of written runs on the graphs of textbook rules. Each function states laws, and does nothing.
 
 ghost use Rattle.textbook.specs.TextbookRuns.{HolmRemovalsAreDefined, SequenceRemovalsAreDefined, FallbackRemovalsAreDefined};
+ghost use Rattle.textbook.specs.TextbookRuns.{GatekeepingRemovalsAreDefined};
 ghost use Rattle.textbook.specs.DefinedDecisions.{HolmDecisionsAreDefined, SequenceDecisionsAreDefined, FallbackDecisionsAreDefined};
+ghost use Rattle.textbook.specs.DefinedDecisions.{GatekeepingDecisionsAreDefined};
+ghost use Rattle.textbook.specs.Gatekeeping.{GatekeepingGraphsDecideAsGatekeeping};
 
-/// On the graphs of Holm's rule, of the fixed sequence and of the fallback rule no removal is refused, in whatever order,
-/// and no level.
+/// On the graphs of Holm's rule, of the fixed sequence, of the fallback rule and of parallel gatekeeping no removal is refused,
+/// in whatever order, and no level.
 pub fn textbook_removals_are_defined()
     ensures holm { HolmRemovalsAreDefined }
     ensures sequence { SequenceRemovalsAreDefined }
     ensures fallback { FallbackRemovalsAreDefined }
+    ensures gatekeeping { GatekeepingRemovalsAreDefined }
 {}
 
 /// On cases of these graphs no decision is too wide, by whatever priority, and neither are adjusted values.
@@ -16,4 +20,11 @@ pub fn textbook_decisions_are_defined()
     ensures holm { HolmDecisionsAreDefined }
     ensures sequence { SequenceDecisionsAreDefined }
     ensures fallback { FallbackDecisionsAreDefined }
+    ensures gatekeeping { GatekeepingDecisionsAreDefined }
+{}
+
+/// On the graph of parallel gatekeeping the closed test rejects exactly what the rule rejects. Each primary hypothesis is tested
+/// at its part of the level. The parts of those that are rejected go to the secondary ones, which Holm's rule tests.
+pub fn gatekeeping_graphs_decide_as_the_rule()
+    ensures { GatekeepingGraphsDecideAsGatekeeping }
 {}
