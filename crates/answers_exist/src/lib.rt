@@ -1,0 +1,4 @@
+//! Each call of the program has an answer.
+#![tactic(auto)]
+
+mod laws;
