@@ -1,6 +1,10 @@
+pub mod AdjustedRuns
 pub mod Decisions
 pub mod Ends
+pub mod NamedCases
 pub mod Results
 pub mod Searches
+pub mod SetRuns
 pub mod Sorting
+pub mod StageLooks
 pub mod Tables
