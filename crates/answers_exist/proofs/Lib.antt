@@ -1,3 +1,4 @@
+pub mod GivenLevels
 pub mod AdjustedRuns
 pub mod Decisions
 pub mod Ends
@@ -5,6 +6,7 @@ pub mod NamedCases
 pub mod Results
 pub mod Searches
 pub mod SetRuns
+pub mod SimesTables
 pub mod Sorting
 pub mod StageLooks
 pub mod Tables
