@@ -1,15 +1,12 @@
 -- The run of adjusted values ends: with the values, or at a place where what is written is undefined.
-use Rattle.std.proofs.Common.{◌≡◌, ◌⊎◌, inl, inr, refl, sym, ap, ◌∙◌, subst, ℕ, zero, suc, ◌+◌, ◌<◌, ◌≤◌, arith, List, []}
-use Rattle.std.proofs.Common.{length, replicate, Some, None, Result, Ok, Err}
+use Rattle.std.proofs.Common.{◌≡◌, ◌⊎◌, inl, inr, refl, sym, ◌∙◌, subst, ℕ, zero, suc, ◌+◌, ◌<◌, ◌≤◌, arith, List, []}
+use Rattle.std.proofs.Common.{length, replicate, None, Ok, Err}
 use Rattle.std.proofs.Math.ListN.{set}
-use Rattle.field_core.specs.Number.{Number}
-use Rattle.field_core.specs.Order.{◌≤ε◌, at_most}
-use Rattle.field_core.specs.View.{terms}
+use Rattle.field_core.specs.Order.{at_most}
 use Rattle.field_core.specs.declared.place.WideAt.{WideAt}
 use Rattle.field_core.specs.declared.ratio.Ratio.{Ratio}
 use Rattle.field_core.proofs.Live.{true_or_false, true_not_false}
 use Rattle.fraction.specs.View.{number_of}
-use Rattle.case_model.specs.declared.inputs.Inputs.{Inputs}
 use Rattle.case_model.specs.declared.inputs.Inputs.TheVariants.{Single}
 use Rattle.case_model.specs.CaseTests.{at_level, IsUnstaged}
 use Rattle.case_model.specs.Sums.{zero_ratio, one_ratio}
@@ -19,7 +16,6 @@ use Rattle.case_model.proofs.Comparisons.{zero_is}
 use Rattle.case_model.proofs.OtherLevels.{valid_at}
 use Rattle.entangled.specs.CaseRun.{CaseState, case_opening, case_removal}
 use Rattle.sequential.specs.declared.decision.RatioStep.{RatioStep}
-use Rattle.sequential.specs.declared.fault.RunFault.{RunFault}
 use Rattle.sequential.specs.declared.fault.RunFault.TheVariants.{Wide}
 use Rattle.sequential.specs.declared.priority.Priority.TheVariants.{Ratio as ByRatio}
 use Rattle.sequential.specs.DecisionRuns.{IsStepFault, IsEndOf}

@@ -1,12 +1,11 @@
 -- The run of a decision ends: with a decision, or at a place where what is written is undefined.
-use Rattle.std.proofs.Common.{◌≡◌, ◌⊎◌, inl, inr, refl, sym, ap, ap₂, ◌∙◌, subst, ℕ, zero, suc, ◌+◌, ◌<◌, ◌≤◌, arith, Bool, true, false, List, []}
-use Rattle.std.proofs.Common.{◌∷◌, ◌++◌, length, map, Option, Some, None, Result, Ok, Err, add-one}
+use Rattle.std.proofs.Common.{◌≡◌, ◌⊎◌, inl, inr, refl, sym, ap, ◌∙◌, subst, ℕ, zero, suc, ◌+◌, ◌<◌, ◌≤◌, arith, List, []}
+use Rattle.std.proofs.Common.{◌∷◌, ◌++◌, length, map, Some, None, Ok, add-one}
 use Rattle.std.specs.List.{filter, range_with_len, AllByRecursion}
 use Rattle.std.specs.Option.{option_map}
 use Rattle.field_core.specs.Terms.{Terms, IsReduced}
 use Rattle.field_core.specs.View.{terms}
-use Rattle.field_core.specs.Order.{◌≤ε◌, at_most}
-use Rattle.field_core.specs.Sets.{whole}
+use Rattle.field_core.specs.Order.{at_most}
 use Rattle.field_core.specs.Laws.AtMostLaws.{positive_or_not, positive-not_at_most}
 use Rattle.field_core.specs.declared.place.Op.TheVariants.{Div}
 use Rattle.field_core.specs.declared.place.Place.TheVariants.{Ratio as AtRatio}
@@ -19,9 +18,8 @@ use Rattle.fraction.specs.Plain.{single as single_parts}
 use Rattle.fraction.specs.Laws.PlainLaws.{plain_is_exact}
 use Rattle.case_model.specs.declared.inputs.Inputs.TheVariants.{Single}
 use Rattle.case_model.specs.Sums.{number, number_at, ratio_at}
-use Rattle.case_model.specs.Content.{Content, ForSingle, entangled}
+use Rattle.case_model.specs.Content.{Content}
 use Rattle.case_model.specs.Validity.{IsValidContent}
-use Rattle.case_model.specs.LegalOrder.{IsFirst, IsLast}
 use Rattle.case_model.proofs.ExactSums.{stored_single}
 use Rattle.case_model.proofs.OrderExistence.{passes_or_not}
 use Rattle.entangled.specs.CaseRun.{CaseState, is_live_in_case, case_level, case_opening, case_removal}
@@ -30,11 +28,11 @@ use Rattle.sequential.specs.declared.decision.Decision.{Decision}
 use Rattle.sequential.specs.declared.decision.StepLine.{StepLine}
 use Rattle.sequential.specs.declared.priority.Priority.{Priority}
 use Rattle.sequential.specs.declared.priority.Priority.TheVariants.{First, Last, Ratio as ByRatio}
-use Rattle.sequential.specs.Choices.{MayRejectNone, IsFirstToReject, IsLastToReject, HasNoRatioBelow, HasLeastRatioBelow, IsNextIn, IsChoice, HasPresentWeight}
+use Rattle.sequential.specs.Choices.{MayRejectNone, IsFirstToReject, IsLastToReject, HasNoRatioBelow, HasLeastRatioBelow, IsNextIn, HasPresentWeight}
 use Rattle.sequential.specs.Choices.{AreKeptBelow, IsNoLegalRatio, no_ratio, not_legal}
 use Rattle.sequential.specs.Decisions.{hypotheses, IsDecision}
-use Rattle.sequential.specs.DecisionRuns.{IsStepOf, IsEndOf, IsStepFault, IsWideNext, IsRunSoFar, IsRun}
-use Rattle.sequential.specs.Trials.{TrialContent, IsTrialOf, IsTrial, MayReject, IsNextTrial, number_left}
+use Rattle.sequential.specs.DecisionRuns.{IsStepOf, IsEndOf, IsStepFault, IsRunSoFar, IsRun}
+use Rattle.sequential.specs.Trials.{TrialContent, IsTrialOf, MayReject, IsNextTrial, number_left}
 use Rattle.sequential.specs.WideDecisions.{HasWrittenRatio, IsWrittenRatio, AreDefinedBelow, IsFirstWideRatio, IsChoiceDefined, IsWideChoice, IsWideDecision}
 use Rattle.sequential.specs.WideDecisions.{written_ratio}
 use Rattle.sequential.proofs.Candidates.{none_more, first_one, stays, takes}
@@ -44,7 +42,7 @@ use Rattle.sequential.proofs.RatioFacts.{level_divides}
 use Rattle.sequential.proofs.RunSteps.{run_start, run_step, run_end, run_fault, step_smaller}
 use Rattle.sequential.proofs.TrialFacts.{opened_trial, distinct}
 use Rattle.answers_exist.proofs.Results.{given_or_none, not_given, value_or_fault}
-use Rattle.answers_exist.proofs.Searches.{IsFirstBelow, IsLastBelow, HoldsForNone, first_or_none, last_or_none}
+use Rattle.answers_exist.proofs.Searches.{HoldsForNone, first_or_none, last_or_none}
 
 -- ---- ratios that are written
 

@@ -1,16 +1,16 @@
 -- Named graphs and samples are made, or refused for their sizes, their seed or a fault of their case.
-use Rattle.std.proofs.Common.{◌≡◌, ◌⊎◌, inl, inr, refl, sym, ap, ◌∙◌, subst, ℕ, zero, suc, ◌≤◌, arith, Bool, true, false, List, [], Option, Some, None}
+use Rattle.std.proofs.Common.{◌≡◌, refl, ℕ, zero, suc, ◌≤◌, arith, Bool, true, false, List, [], Option, Some, None}
 use Rattle.std.proofs.Common.{Result, Ok, Err}
 use Rattle.std.specs.Prelude.{if◌then◌else◌, pos}
 use Rattle.field_core.specs.declared.ratio.Ratio.{Ratio}
 use Rattle.case_model.specs.CaseFaults.{case_fault}
-use Rattle.case_model.specs.Content.{Content, content_of}
+use Rattle.case_model.specs.Content.{Content}
 use Rattle.case_model.specs.Validity.{IsValidContent}
 use Rattle.case_model.specs.declared.draft.Draft.{Draft}
 use Rattle.case_model.specs.declared.fault.CaseFault.{CaseFault}
 use Rattle.case_model.specs.declared.inputs.Inputs.TheVariants.{Single}
 use Rattle.catalogue.specs.declared.fault.CatalogueFault.{CatalogueFault}
-use Rattle.catalogue.specs.declared.fault.CatalogueFault.TheVariants.{Size, Seed, Case as OfCase, NoMemory}
+use Rattle.catalogue.specs.declared.fault.CatalogueFault.TheVariants.{Size, Seed, NoMemory}
 use Rattle.catalogue.specs.Makings.{made_unless, made, behind, seed_fault, holm_case, sequence_case, fallback_case, parallel_case, improved_case, sample_case}
 use Rattle.catalogue.specs.Quotients.{quotient}
 use Rattle.catalogue.specs.Samples.{sample_graph, sample_p_values}

@@ -1,5 +1,5 @@
 -- The first and the last of the positions below a number for which something holds, if it is known of each whether it does.
-use Rattle.std.proofs.Common.{◌≡◌, ◌⊎◌, inl, inr, sym, subst, ℕ, zero, suc, ◌<◌, arith}
+use Rattle.std.proofs.Common.{◌⊎◌, inl, inr, sym, subst, ℕ, zero, suc, ◌<◌, arith}
 use Rattle.field_core.proofs.Positions.{at_or_below}
 
 module _ (P : ℕ → Type 0) where
@@ -38,11 +38,14 @@ module _ (P : ℕ → Type 0) (decide : (k : ℕ) → P k ⊎ ¬ P k) where
   last_or_none (suc n) = elim (decide n) [
     | inl h ↦ inl (n, record { below = omega arith; holds = h; after = λ k p q. absurd (omega (arith, p, q)) })
     | inr o ↦ elim (last_or_none n) [
-      | inl l ↦ inl (l.0, record {
-        below = (let b = l.1.below in omega (arith, b));
-        holds = l.1.holds;
-        after = λ k p q. elim (at_or_below k n q) [ inl e ↦ subst (λ i. ¬ P i) (sym e) o | inr b ↦ l.1.after k p b ];
-      })
+      | inl l ↦ inl (
+        l.0,
+        record {
+          below = (let b = l.1.below in omega (arith, b));
+          holds = l.1.holds;
+          after = λ k p q. elim (at_or_below k n q) [ inl e ↦ subst (λ i. ¬ P i) (sym e) o | inr b ↦ l.1.after k p b ];
+        },
+      )
       | inr none ↦ inr (none_more n none o)
     ]
   ]

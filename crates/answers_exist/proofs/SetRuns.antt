@@ -1,5 +1,5 @@
 -- The runs of all sets of a case are defined, or one of them is the first that isn't; and where they are, the sets have weights.
-use Rattle.std.proofs.Common.{◌≡◌, ◌⊎◌, inl, inr, refl, sym, ap, ap₂, ◌∙◌, subst, ℕ, ◌^◌, ◌<◌, arith, List, [], ◌∷◌}
+use Rattle.std.proofs.Common.{◌≡◌, ◌⊎◌, inl, inr, refl, sym, ap, ap₂, ◌∙◌, ℕ, ◌^◌, ◌<◌, arith, List, [], ◌∷◌}
 use Rattle.std.proofs.Common.{length, Ok, Err}
 use Rattle.field_core.specs.declared.place.WideAt.{WideAt}
 use Rattle.field_core.specs.declared.ratio.Ratio.{Ratio}

@@ -1,8 +1,7 @@
 -- Tables of the closed test and of the closed test of Simes' test, where the runs of all sets are defined; or the first sum that isn't.
-use Rattle.std.proofs.Common.{◌≡◌, ◌⊎◌, inl, inr, refl, sym, ◌∙◌, subst, ℕ, ◌^◌, ◌<◌, Bool, true, List, length, Option, Some, None, ◌↔◌}
+use Rattle.std.proofs.Common.{◌≡◌, ◌⊎◌, inl, inr, refl, sym, ◌∙◌, subst, ℕ, ◌^◌, ◌<◌, Bool, true, List, length, Option, Some, None}
 use Rattle.field_core.specs.Terms.{Terms}
 use Rattle.field_core.specs.NumberedSets.{members}
-use Rattle.field_core.specs.Sets.{IsIn}
 use Rattle.field_core.specs.declared.place.Op.TheVariants.{Add}
 use Rattle.field_core.specs.declared.place.Place.TheVariants.{Level}
 use Rattle.field_core.specs.declared.place.WideAt.{WideAt}

@@ -1,6 +1,5 @@
 -- The numbers below a number, in a strict order by which of each two one comes first: a list of them, and the first for which something holds.
-use Rattle.std.proofs.Common.{◌≡◌, ◌⊎◌, inl, inr, refl, sym, ap, subst, ℕ, zero, suc, ◌<◌, arith, List, [], ◌∷◌}
-use Rattle.std.proofs.Common.{length}
+use Rattle.std.proofs.Common.{◌≡◌, ◌⊎◌, inl, inr, refl, sym, subst, ℕ, zero, suc, ◌<◌, arith, List, [], ◌∷◌}
 use Rattle.std.specs.Prelude.{Contains}
 use Rattle.std.specs.List.{All, AllPairs, AllByRecursion}
 use Rattle.std.proofs.lemmas.List.Elements.{All-nil, All-cons}
@@ -134,10 +133,15 @@ module _ (R : ℕ → ℕ → Type 0) where
             → ((j : ℕ) × (j < n) × P j × ((i : ℕ) → IsAmong xs i → R i j → ¬ P i)) ⊎ ((i : ℕ) → IsAmong xs i → ¬ P i)
         first_in [] s b = inr (λ i h. absurd h)
         first_in (x ∷ xs) s b = elim (decide x b.0) [
-          | inl p ↦ inl (x, b.0, p, λ i h r. elim h [
-            | inl e ↦ absurd (itself x (subst (λ k. R k x) e r))
-            | inr l ↦ absurd (itself i (both i x i r (later xs i s.0 l)))
-          ])
+          | inl p ↦ inl (
+            x,
+            b.0,
+            p,
+            λ i h r. elim h [
+              | inl e ↦ absurd (itself x (subst (λ k. R k x) e r))
+              | inr l ↦ absurd (itself i (both i x i r (later xs i s.0 l)))
+            ],
+          )
           | inr o ↦ elim (first_in xs s.1 b.1) [
             | inl f ↦ inl (f.0, f.1, f.2, λ i h r. elim h [ inl e ↦ subst (λ k. ¬ P k) (sym e) o | inr l ↦ f.3 i l r ])
             | inr none ↦ inr (λ i h. elim h [ inl e ↦ subst (λ k. ¬ P k) (sym e) o | inr l ↦ none i l ])

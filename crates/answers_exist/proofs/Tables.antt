@@ -1,10 +1,10 @@
 -- What is known of each set can be written into a table, and a table of a local test gives one of its closed test.
 use Rattle.std.proofs.Common.{◌≡◌, ◌⊎◌, inl, inr, refl, sym, ◌∙◌, ℕ, ◌^◌, ◌<◌, Bool, true, false, ◌↔◌}
-use Rattle.field_core.specs.Sets.{IsIn, IsSubset}
+use Rattle.field_core.specs.Sets.{IsSubset}
 use Rattle.field_core.specs.NumberedSets.{members}
 use Rattle.field_core.proofs.Live.{true_or_false, true_not_false}
 use Rattle.field_core.proofs.Positions.{below_or_not}
-use Rattle.case_model.specs.SetAnswers.{AnswersFor, IsYesAbove, AreClosedFrom}
+use Rattle.case_model.specs.SetAnswers.{IsYesAbove, AreClosedFrom}
 use Rattle.answers_exist.proofs.Searches.{first_or_none}
 
 -- ---- tables of what is known
