@@ -1,7 +1,8 @@
-pub mod GivenLevels
 pub mod AdjustedRuns
 pub mod Decisions
 pub mod Ends
+pub mod FlowEvidence
+pub mod GivenLevels
 pub mod NamedCases
 pub mod Results
 pub mod Searches
