@@ -20,7 +20,7 @@ told_ends tell s e = elim e [ inl x ↦ inl x | inr q ↦ inr (tell q.0, (q.0, q
 pub only_ends : {R A : Type 0} (x : A) → Ends (only {R = R} x)
 only_ends x = inl (x, refl)
 
--- an input has at most so many bytes, or more
+-- an input has at most 4,194,304 bytes, or more
 pub within_ends : (name bytes : List ℕ) → Ends (within name bytes)
 within_ends name bytes = elim (below_or_above most_bytes (length bytes)) [
   | inl more ↦ inr (bytes_refusal name (most_bytes + 1), (more, refl))

@@ -1,6 +1,6 @@
 -- What a written flow run gives is evidence that the program can hold.
-use Rattle.std.proofs.Common.{◌≡◌, ◌⊎◌, inl, inr, refl, sym, ap, ap₂, ◌∙◌, subst, ℕ, zero, suc, arith, Bool, true, false, List, [], ◌∷◌}
-use Rattle.std.proofs.Common.{map, length, Result, Ok, Err}
+use Rattle.std.proofs.Common.{◌≡◌, ◌⊎◌, inl, inr, refl, sym, ap, ap₂, ◌∙◌, subst, ℕ, zero, suc, arith, List, [], ◌∷◌}
+use Rattle.std.proofs.Common.{map, length, Ok, Err}
 use Rattle.std.specs.List.{All}
 use Rattle.field_core.specs.Kind.{Parts, Kind}
 use Rattle.field_core.specs.declared.ratio.Ratio.{Ratio}
@@ -14,7 +14,7 @@ use Rattle.eps_quotient.specs.View.{quotient_parts}
 use Rattle.case_model.specs.Content.{Content, is_plain}
 use Rattle.case_model.specs.Sums.{number_at}
 use Rattle.case_model.specs.Validity.{IsValidContent}
-use Rattle.case_numbers.specs.Numbers.{Numbers, in_fractions, in_quotients, numbers_of, kind_of, IsStoredIn}
+use Rattle.case_numbers.specs.Numbers.{in_fractions, in_quotients, numbers_of, kind_of, IsStoredIn}
 use Rattle.case_numbers.proofs.Components.{can_run}
 use Rattle.evidence_check.specs.CaseCheck.{p_values_of, AreStepsOf}
 use Rattle.evidence_check.specs.CheckStatements.{AreStoredSteps}

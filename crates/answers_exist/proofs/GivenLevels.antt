@@ -1,4 +1,4 @@
--- The level of a sheet, in what words ask for, is that of some fraction.
+-- The level of a sheet, in what words ask for, is that of some fraction: it is the value of a numeral.
 use Rattle.std.proofs.Common.{◌≡◌, ◌⊎◌, inl, inr, refl, sym, ◌∙◌, subst, ℕ, ◌+◌, arith, List, [], ◌∷◌, length, drop, Bool, true, false}
 use Rattle.std.proofs.Common.{Option, Some, None, Ok, Err}
 use Rattle.std.specs.Prelude.{ok_or, if◌then◌else◌}
@@ -26,7 +26,7 @@ HasLevel text = Unit {0}
 HasLevel (csv alpha) = IsOfFraction alpha
 HasLevel json = Unit {0}
 
--- how the case is written of what is asked for
+-- how the case of a request is written
 abbrev pub form_in : Asked → Option Written
 form_in (task_on_case form task) = Some form
 form_in (catalogue graph) = None
@@ -34,7 +34,7 @@ form_in (check form file) = Some form
 form_in (sample size seed) = None
 form_in help = None
 
--- so it is in what is asked for
+-- so it is in a request
 abbrev pub AsksLevel : Asked → Type 0
 AsksLevel asked = (form : Written) → form_in asked ≡ Some form → HasLevel form
 
@@ -51,7 +51,7 @@ put_alpha : (verb : _) (at : ℕ) (argument : _) (bytes : List ℕ) (g new : Giv
 unfolding with_text
 put_alpha verb at argument bytes g new e = grind arith
 
--- what is asked for has the form that was given, or reads no case
+-- a request has the form that was given, or reads no case
 asked_form : (verb : _) (g : GivenContent) (asked : Asked) → asked_of verb g ≡ Some asked → (form_in asked ≡ None) ⊎ (form_in asked ≡ written_of g)
 unfolding on_case check_of catalogue_of sample_of
 asked_form verb g asked e = grind arith
@@ -116,7 +116,7 @@ words_keep (word ∷ words) =
 arguments_level : (verb : _) (words : List (List ℕ)) (new : GivenContent) → arguments_in verb words ≡ Ok new → GivesLevel new.alpha
 arguments_level verb words new e = (words_keep (drop 1 words)).0 verb 1 nothing new e tt
 
--- ---- what is asked for
+-- ---- requests
 
 value_level : (o : Option (Level × ℕ)) (alpha : Level) → value_of o ≡ Some alpha → GivesLevel o → IsOfFraction alpha
 value_level None alpha e h = absurd (cc e)

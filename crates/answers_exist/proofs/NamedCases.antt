@@ -20,13 +20,13 @@ use Rattle.catalogue.proofs.AloneCases.{is_made}
 use Rattle.catalogue.proofs.KnownEnds.{known_arrivals}
 use Rattle.catalogue.proofs.SampleInputs.{sample_inputs}
 
--- ---- no memory is asked for
+-- ---- what is made is never out of memory
 
--- what is made isn't refused for want of memory
+-- what is made isn't refused as out of memory
 abbrev pub IsPlain : Result Content CatalogueFault → Type 0
 IsPlain r = ¬ (r ≡ Err NoMemory)
 
--- nor is it by a fault
+-- nor is it by this fault
 abbrev IsPlainFault : Option CatalogueFault → Type 0
 IsPlainFault o = ¬ (o ≡ Some NoMemory)
 

@@ -1,1 +1,12 @@
-//! Laws.
+//! Laws of the outcomes of calls and of studies: there is one. Each function states laws, and does nothing.
+ghost use Rattle.answers_exist.specs.Runs.{DecisionsEnd, AdjustedRunsEnd, LooksEnd, SetRunsEnd, FlowRunsEnd};
+
+/// What is written for a case ends, hypothesis by hypothesis, look by look or set by set: with what it is to give, or at the
+/// first operation that is undefined.
+pub fn written_runs_end()
+    ensures decisions { DecisionsEnd }
+    ensures adjusted { AdjustedRunsEnd }
+    ensures looks { LooksEnd }
+    ensures sets { SetRunsEnd }
+    ensures flows { FlowRunsEnd }
+{}
