@@ -1,11 +1,15 @@
+pub mod AcceptedCases
 pub mod AdjustedRuns
+pub mod DecidedCalls
 pub mod Decisions
 pub mod Ends
+pub mod EvidenceCalls
 pub mod FlowEvidence
 pub mod GivenLevels
 pub mod NamedCases
 pub mod Results
 pub mod Searches
+pub mod SetCalls
 pub mod SetRuns
 pub mod SimesTables
 pub mod Sorting
