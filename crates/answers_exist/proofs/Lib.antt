@@ -1,5 +1,6 @@
 pub mod AcceptedCases
 pub mod AdjustedRuns
+pub mod Calls
 pub mod DecidedCalls
 pub mod Decisions
 pub mod Ends

@@ -1,4 +1,5 @@
 //! Laws of the outcomes of calls and of studies: there is one. Each function states laws, and does nothing.
+ghost use Rattle.answers_exist.specs.Existence.{CallsHaveAnAnswer};
 ghost use Rattle.answers_exist.specs.Runs.{DecisionsEnd, AdjustedRunsEnd, LooksEnd, SetRunsEnd, FlowRunsEnd};
 
 /// What is written for a case ends, hypothesis by hypothesis, look by look or set by set: with what it is to give, or at the
@@ -9,4 +10,10 @@ pub fn written_runs_end()
     ensures looks { LooksEnd }
     ensures sets { SetRunsEnd }
     ensures flows { FlowRunsEnd }
+{}
+
+/// For all words, cases and proofs there is an answer that the words call for. By `calls_have_one_answer` of `graph_cli` there is
+/// no other.
+pub fn calls_have_an_answer()
+    ensures { CallsHaveAnAnswer }
 {}
