@@ -15,4 +15,5 @@ pub mod SetRuns
 pub mod SimesTables
 pub mod Sorting
 pub mod StageLooks
+pub mod Studies
 pub mod Tables

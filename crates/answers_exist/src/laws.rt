@@ -1,5 +1,5 @@
 //! Laws of the outcomes of calls and of studies: there is one. Each function states laws, and does nothing.
-ghost use Rattle.answers_exist.specs.Existence.{CallsHaveAnAnswer};
+ghost use Rattle.answers_exist.specs.Existence.{CallsHaveAnAnswer, StudiesHaveAnOutcome};
 ghost use Rattle.answers_exist.specs.Runs.{DecisionsEnd, AdjustedRunsEnd, LooksEnd, SetRunsEnd, FlowRunsEnd};
 
 /// What is written for a case ends, hypothesis by hypothesis, look by look or set by set: with what it is to give, or at the
@@ -16,4 +16,10 @@ pub fn written_runs_end()
 /// no other.
 pub fn calls_have_an_answer()
     ensures { CallsHaveAnAnswer }
+{}
+
+/// For all words, cases, commands and kept looks a study has an outcome, which is an answer with the looks that are kept in
+/// addition, or a refusal. By `studies_have_one_outcome` of `study_cli` there is no other.
+pub fn studies_have_an_outcome()
+    ensures { StudiesHaveAnOutcome }
 {}
