@@ -1,5 +1,5 @@
 -- A source denotes a case that a command can take, or is refused.
-use Rattle.std.proofs.Common.{◌≡◌, ◌⊎◌, inl, inr, refl, sym, ap, ◌∙◌, subst, ℕ, List, [], ◌∷◌, length, Option, Some, None, Result, Ok, Err}
+use Rattle.std.proofs.Common.{◌≡◌, ◌⊎◌, inl, inr, refl, sym, ◌∙◌, subst, ℕ, List, [], ◌∷◌, length, Option, Result, Ok, Err}
 use Rattle.std.specs.Str.{is_utf8}
 use Rattle.std.proofs.lemmas.Str.{IsUtf8-from_is_utf8, is_utf8-from_IsUtf8}
 use Rattle.field_core.specs.Answers.{mapped}
@@ -46,8 +46,10 @@ mapped_fault f (Err g) e h = cc
 sheet_ends : (bytes : List ℕ) (r : Ratio) → Ends (grammar (csv (record { num = r.num; den = r.den })) bytes)
 sheet_ends bytes r = elim (value_or_fault (table_of r (cells_of bytes))) [
   | inl d ↦ inl (d.0, (r, refl, d.1))
-  | inr f ↦ inr (cell_refusal f.0.row f.0.column f.0.kind,
-      (f.0.row, f.0.column, f.0.kind, mapped_fault _ (sheet_of (cells_of bytes)) f.0 f.1, refl))
+  | inr f ↦ inr (
+    cell_refusal f.0.row f.0.column f.0.kind,
+    (f.0.row, f.0.column, f.0.kind, mapped_fault _ (sheet_of (cells_of bytes)) f.0 f.1, refl),
+  )
 ]
 
 value_ends : (bytes : List ℕ) (value : Data) → IsJson bytes value → Ends (grammar json bytes)

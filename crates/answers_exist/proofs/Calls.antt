@@ -1,5 +1,5 @@
 -- Each call has an answer.
-use Rattle.std.proofs.Common.{◌≡◌, ◌⊎◌, inl, inr, refl, sym, ap, ◌∙◌, subst, ℕ, List, Option, Some, None, Result, Ok, Err}
+use Rattle.std.proofs.Common.{◌≡◌, inl, inr, refl, ℕ, List, Option, Result, Ok, Err}
 use Rattle.std.specs.Prelude.{codes}
 use Rattle.field_core.proofs.Live.{true_or_false}
 use Rattle.answers.specs.Lines.{done}
@@ -7,7 +7,6 @@ use Rattle.answers.specs.Stages.{on_bytes, within, told_as}
 use Rattle.case_csv.specs.Sheet.{fits_sheet, sheet_text}
 use Rattle.case_json.specs.Written.{json_text}
 use Rattle.case_model.specs.Content.{Content}
-use Rattle.case_model.specs.Validity.{IsValidContent}
 use Rattle.catalogue.specs.Makings.{sample_case}
 use Rattle.catalogue.specs.NamedGraphs.{equal_weights, part}
 use Rattle.catalogue.specs.declared.fault.CatalogueFault.{CatalogueFault}

@@ -1,5 +1,5 @@
 -- The calls that decide a case, and that print its looks, end.
-use Rattle.std.proofs.Common.{◌≡◌, ◌⊎◌, inl, inr, refl, sym, ap, ◌∙◌, subst, ℕ, List}
+use Rattle.std.proofs.Common.{◌≡◌, inl, inr, refl, List}
 use Rattle.field_core.specs.declared.ratio.Ratio.{Ratio}
 use Rattle.case_model.specs.declared.inputs.Inputs.TheVariants.{Single}
 use Rattle.case_model.specs.Content.{Content}

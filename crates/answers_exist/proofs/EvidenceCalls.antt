@@ -17,7 +17,7 @@ use Rattle.evidence.specs.CaseFlows.{IsCompleteOrder}
 use Rattle.evidence.proofs.MakeAnswers.{decision_order}
 use Rattle.refusals.specs.ProofRefusal.{part_at}
 use Rattle.refusals.specs.declared.wide.When.TheVariants.{EvidenceStep, Check}
-use Rattle.sequential.specs.Decisions.{hypotheses, IsDecision}
+use Rattle.sequential.specs.Decisions.{hypotheses}
 use Rattle.sequential.specs.declared.decision.Decision.{Decision}
 use Rattle.sequential.specs.declared.priority.Priority.{Priority}
 use Rattle.graph_cli.specs.Check.{Said, said_of, listed_in, kept_in, evidence_in, checked, answer_to, check_stage}

@@ -1,10 +1,9 @@
 -- The calls that print something of all sets of a case end.
-use Rattle.std.proofs.Common.{◌≡◌, ◌⊎◌, inl, inr, refl, sym, ap, ◌∙◌, subst, ℕ, ◌^◌, ◌<◌, Bool, List, length}
+use Rattle.std.proofs.Common.{◌≡◌, inl, inr, refl, sym, subst, ℕ, Bool, List, length}
 use Rattle.field_core.specs.NumberedSets.{members}
 use Rattle.field_core.specs.declared.place.WideAt.{WideAt}
 use Rattle.field_core.specs.declared.ratio.Ratio.{Ratio}
 use Rattle.answers.specs.Lines.{done}
-use Rattle.answers.specs.Stages.{and_then, only}
 use Rattle.case_model.specs.declared.inputs.Inputs.TheVariants.{Single}
 use Rattle.case_model.specs.Content.{Content, ForSingle}
 use Rattle.case_model.specs.Sums.{number_at}
@@ -13,7 +12,6 @@ use Rattle.case_model.specs.Validity.{IsValidContent}
 use Rattle.case_model.proofs.Bounds.{table_bound_exists}
 use Rattle.case_model.proofs.ByPValue.{by_p_value_length, by_p_value_below, by_p_value_all, by_p_value_ordered}
 use Rattle.closed_test.specs.SetRuns.{AreRunsDefined, IsFirstWideSet}
-use Rattle.closed_test.specs.SetWeights.{AreIntersectionWeights}
 use Rattle.refusals.specs.declared.wide.When.TheVariants.{Set, SimesSet}
 use Rattle.report.specs.BoundsReport.{bounds_report}
 use Rattle.report.specs.SimesReport.{simes_report}
@@ -96,15 +94,18 @@ module _ (c : Content) (V : IsValidContent c) where
               let js = by_p_value (number_at ps) (length c.names) in
               inl (
                 simes_report c bound closed js S.0,
-                ((W.0, W.1, T.0), record {
-                  bound = bound;
-                  closed = closed;
-                  leaders = js;
-                  bounds = simes_bounds c (length c.names) closed bound refl T.1.1 (λ n p. (table_bound_exists (length c.names) closed (members n)).1);
-                  answers = T.1.1;
-                  order = leaders;
-                  text_is = (S.0, S.1, refl);
-                }),
+                (
+                  (W.0, W.1, T.0),
+                  record {
+                    bound = bound;
+                    closed = closed;
+                    leaders = js;
+                    bounds = simes_bounds c (length c.names) closed bound refl T.1.1 (λ n p. (table_bound_exists (length c.names) closed (members n)).1);
+                    answers = T.1.1;
+                    order = leaders;
+                    text_is = (S.0, S.1, refl);
+                  },
+                ),
               )
         ]
 

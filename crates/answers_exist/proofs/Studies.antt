@@ -1,6 +1,6 @@
 -- Each study has an outcome.
-use Rattle.std.proofs.Common.{◌≡◌, ◌⊎◌, inl, inr, refl, sym, ap, ◌∙◌, subst, ℕ, ◌+◌, ◌<◌, ◌≤◌, arith, List, [], ◌∷◌, ◌++◌, length, Option, Some, None}
-use Rattle.std.proofs.Common.{Result, Ok, Err}
+use Rattle.std.proofs.Common.{◌⊎◌, inl, inr, refl, sym, ap, subst, ℕ, ◌+◌, arith, List, [], ◌∷◌, ◌++◌, length, Option, Some, None}
+use Rattle.std.proofs.Common.{Ok}
 use Rattle.std.specs.List.{AllByRecursion}
 use Rattle.std.specs.Prelude.{codes}
 use Rattle.field_core.specs.Answers.{told_as as result_told}
@@ -18,9 +18,9 @@ use Rattle.refusals.specs.UsageRefusal.{usage}
 use Rattle.refusals.specs.WideRefusal.{wide_refusal}
 use Rattle.refusals.specs.declared.wide.When.TheVariants.{Look as AfterLook}
 use Rattle.report.specs.StudyReport.{Reply, taken, refused as refusing, shown, study_report}
-use Rattle.staged_levels.specs.Looks.{IsDefined, IsWideLook}
+use Rattle.staged_levels.specs.Looks.{IsDefined}
 use Rattle.staged_levels.specs.Studies.{StudyState, start, IsStudyOf}
-use Rattle.study_register.specs.Looking.{arrival_of, Takes, Follows, AreTaken}
+use Rattle.study_register.specs.Looking.{Follows}
 use Rattle.study_register.specs.RegisterFaults.{IsFirstStop, IsStopped}
 use Rattle.study_register.specs.declared.fault.RegisterFault.{RegisterFault}
 use Rattle.study_register.specs.declared.fault.RegisterFault.TheVariants.{BadLook, Wide, Fault, NoMemory}
@@ -30,11 +30,11 @@ use Rattle.study_answers.specs.CommandLanguage.{commands_of as commands_said}
 use Rattle.study_answers.specs.CommandFaults.{on_line}
 use Rattle.study_answers.specs.CommandLines.{IsBelow}
 use Rattle.study_answers.specs.Replies.{taken_in, looks_taken, IsReply, AreReplies, IsBreak, IsFirstBreak}
-use Rattle.study_answers.specs.StudyStages.{StudyEnd, opened, answering, study_stage, on_looks}
+use Rattle.study_answers.specs.StudyStages.{opened, answering, study_stage, on_looks}
 use Rattle.study_answers.specs.declared.command.StudyCommand.{StudyCommand}
 use Rattle.study_answers.specs.declared.command.StudyCommand.TheVariants.{Take, Show}
 use Rattle.study_answers.proofs.CommandReads.{read_below}
-use Rattle.study_cli.specs.StudyOutcome.{study_needs, commands_in, case_of, commands_of, study_call, study_outcome}
+use Rattle.study_cli.specs.StudyOutcome.{study_needs, commands_in, case_of, commands_of, study_call}
 use Rattle.answers_exist.specs.Ends.{Ends}
 use Rattle.answers_exist.specs.Existence.{StudiesHaveAnOutcome}
 use Rattle.answers_exist.proofs.AcceptedCases.{accepted_ends, accepted_taken}

@@ -9,8 +9,8 @@
 //! Proved:
 //! - `calls_have_an_answer`: for all words, cases and proofs there is an answer that the words call for.
 //! - `studies_have_an_outcome`: for all words, cases, commands and kept looks a study has an outcome.
-//! - `written_runs_end`: a decision, adjusted values, looks, the runs of all sets and a flow run end with what they are to give,
-//!   or at the first operation that is undefined.
+//! - `written_runs_end`: decisions, adjusted values, looks, the runs of all sets and flow runs end with a result, or at the first
+//!   operation that is undefined.
 #![tactic(auto)]
 
 pub mod laws;
