@@ -1,0 +1,25 @@
+//! Laws of the outcomes of calls and of studies: there is one. Each function states laws, and does nothing.
+ghost use Rattle.answers_exist.specs.Existence.{CallsHaveAnAnswer, StudiesHaveAnOutcome};
+ghost use Rattle.answers_exist.specs.Runs.{DecisionsEnd, AdjustedRunsEnd, LooksEnd, SetRunsEnd, FlowRunsEnd};
+
+/// For all words, cases and proofs there is an answer that the words call for. By `calls_have_one_answer` of `graph_cli` there is
+/// no other.
+pub fn calls_have_an_answer()
+    ensures { CallsHaveAnAnswer }
+{}
+
+/// For all words, cases, commands and kept looks a study has an outcome, which is an answer with the looks that are kept in
+/// addition, or a refusal. By `studies_have_one_outcome` of `study_cli` there is no other.
+pub fn studies_have_an_outcome()
+    ensures { StudiesHaveAnOutcome }
+{}
+
+/// What is written for a case ends, hypothesis by hypothesis, look by look or set by set. It gives a result, or stops at the first
+/// operation that is undefined.
+pub fn written_runs_end()
+    ensures decisions { DecisionsEnd }
+    ensures adjusted { AdjustedRunsEnd }
+    ensures looks { LooksEnd }
+    ensures sets { SetRunsEnd }
+    ensures flows { FlowRunsEnd }
+{}
