@@ -7,7 +7,7 @@ here=$(dirname -- "$(readlink -f -- "$0")")
 top=$(dirname -- "$here")
 out=$here/out
 release=$(cat "$top/VERSION")
-names='welungad_interface welungad_run welungad_version'
+names='welungad_interface welungad_read welungad_run welungad_test_rows welungad_version'
 
 # Ends the tests.
 fail() {
