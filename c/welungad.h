@@ -93,8 +93,9 @@ uint8_t welungad_read(const uint64_t *bits, size_t bits_len, uint64_t *out, size
  *           With the last two no hypothesis of the row is decided, and all of its marks are 0.
  *
  * Returns WELUNGAD_DONE, and then each mark and each status of a row is written. With another status nothing is written:
- * - WELUNGAD_MALFORMED, WELUNGAD_LIMIT or WELUNGAD_TOO_WIDE: the case is refused, whatever the rows are. welungad_run says by which
- *   line, if it is given the word "test" or "weights" and a case with p-values;
+ * - WELUNGAD_MALFORMED, WELUNGAD_LIMIT or WELUNGAD_TOO_WIDE: the case is refused, whatever the rows are. If its text is, welungad_run
+ *   with the word "canon" answers with the line that says why. Else it has stages, or a number of the opening, before any
+ *   rejection, does not fit into 128 bits;
  * - WELUNGAD_LENGTHS: the lengths don't fit the number of hypotheses;
  * - WELUNGAD_NO_MEMORY: out of memory. */
 uint8_t welungad_test_rows(const uint8_t *kase, size_t kase_len, const uint64_t *p, size_t p_len, uint8_t *rejected,
