@@ -1,7 +1,8 @@
 #!/bin/sh
 # Measures a call of `test` from C, Python and R: in process, and by the program, started for each call. Prints a table in
 # microseconds, the least of five rounds: the processor time of a call in process, and the elapsed time of a started program. R's
-# table follows (calls.R), if Rscript and the package of r/ are there. The gate requires none of these figures.
+# table follows (calls.R), if Rscript and the package of r/ are there, and then 100,000 rows of p-values decided in one call of C
+# (rows.c). The gate requires none of these figures.
 set -eu
 here=$(dirname -- "$(readlink -f -- "$0")")
 out=$here/out
@@ -38,3 +39,6 @@ if command -v Rscript >/dev/null && Rscript --vanilla -e 'library(welungad)' >/d
 else
     echo "bench/calls.sh: no rows from R, since Rscript or the package welungad is missing"
 fi
+
+cc -O2 -Wall -Wextra -o "$out/rows" "$here/rows.c" "$here/../c/out/libwelungad.a"
+for name in holm-3 full-16; do "$out/rows" "$out/$name.txt" 100000; done

@@ -1,10 +1,13 @@
 /* The calls of welungad.h that C can make with less care than the proved ones ask for, and the release.
  *
- * A proved call takes no NULL, also for no bytes. c/build.sh gives it the name that it has here (c/proved.names). */
+ * A proved call takes no NULL, also for nothing. c/build.sh gives it the name that it has here (c/proved.names). */
 #include "welungad.h"
 
 uint8_t welungad_run_proved(const uint8_t *words, size_t words_len, const uint8_t *kase, size_t kase_len, const uint8_t *proof,
                             size_t proof_len, uint8_t *out, size_t out_len, size_t *needed);
+uint8_t welungad_read_proved(const uint64_t *bits, size_t bits_len, uint64_t *out, size_t out_len);
+uint8_t welungad_test_rows_proved(const uint8_t *kase, size_t kase_len, const uint64_t *p, size_t p_len, uint8_t *rejected,
+                                  size_t rejected_len, uint8_t *statuses, size_t statuses_len);
 
 /* c/build.sh takes the text from the file VERSION. */
 const char *welungad_version(void) { return WELUNGAD_RELEASE; }
@@ -14,4 +17,17 @@ uint8_t welungad_run(const uint8_t *words, size_t words_len, const uint8_t *kase
   uint8_t nothing = 0;
   return welungad_run_proved(words ? words : &nothing, words_len, kase ? kase : &nothing, kase_len, proof ? proof : &nothing,
                              proof_len, out ? out : &nothing, out_len, needed);
+}
+
+uint8_t welungad_read(const uint64_t *bits, size_t bits_len, uint64_t *out, size_t out_len) {
+  uint64_t nothing = 0;
+  return welungad_read_proved(bits ? bits : &nothing, bits_len, out ? out : &nothing, out_len);
+}
+
+uint8_t welungad_test_rows(const uint8_t *kase, size_t kase_len, const uint64_t *p, size_t p_len, uint8_t *rejected,
+                           size_t rejected_len, uint8_t *statuses, size_t statuses_len) {
+  uint64_t no_words = 0;
+  uint8_t nothing = 0;
+  return welungad_test_rows_proved(kase ? kase : &nothing, kase_len, p ? p : &no_words, p_len, rejected ? rejected : &nothing,
+                                   rejected_len, statuses ? statuses : &nothing, statuses_len);
 }

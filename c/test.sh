@@ -1,13 +1,13 @@
 #!/bin/sh
 # Tests c/out/libwelungad.a and c/out/libwelungad.so, which c/build.sh makes: the names that they export, the soname, the header as
-# C and as C++, each call of test_calls.c under valgrind, the example, and refused allocations. Ends with a status other than 0 if
-# one fails.
+# C and as C++, each call of test_calls.c and of test_numbers.c under valgrind, 10,000 hostile calls among them, the example, and
+# refused allocations. Ends with a status other than 0 if one fails.
 set -eu
 here=$(dirname -- "$(readlink -f -- "$0")")
 top=$(dirname -- "$here")
 out=$here/out
 release=$(cat "$top/VERSION")
-names='welungad_interface welungad_run welungad_version'
+names='welungad_interface welungad_read welungad_run welungad_test_rows welungad_version'
 
 # Ends the tests.
 fail() {
@@ -41,10 +41,14 @@ cc -x c++ -std=c++11 -Wall -Wextra -Wpedantic -Werror -fsyntax-only "$here/welun
 
 compiled test_calls "$here/test_calls.c" "$out/libwelungad.a" -lpthread
 compiled test_calls_shared "$here/test_calls.c" -L"$out" -lwelungad -Wl,-rpath,"$out" -lpthread
+compiled test_numbers "$here/test_numbers.c" "$out/libwelungad.a" -lpthread
+compiled test_numbers_shared "$here/test_numbers.c" -L"$out" -lwelungad -Wl,-rpath,"$out" -lpthread
 compiled test_memory -Wl,--wrap=malloc,--wrap=realloc,--wrap=free "$here/test_memory.c" "$out/libwelungad.a"
 compiled decide "$here/examples/decide.c" "$out/libwelungad.a"
 watched "$out/test_calls" || fail "test_calls under valgrind"
 "$out/test_calls_shared" || fail "test_calls over libwelungad.so"
+watched "$out/test_numbers" 10000 || fail "test_numbers under valgrind"
+"$out/test_numbers_shared" 10000 || fail "test_numbers over libwelungad.so"
 "$out/test_memory" || fail "test_memory"
 watched "$out/test_memory" 2>/dev/null || fail "test_memory under valgrind"
 watched "$out/decide" "$top/examples/holm.txt" >"$out/printed" || fail "the example under valgrind"

@@ -100,6 +100,36 @@ static void try_call(struct call it) {
   fprintf(stderr, "%s: %ld allocations, %ld of %ld calls out of memory\n", it.words, count, out_of_memory, 2 * count);
 }
 
+/* Decides a row of CASE with one allocation refused, none if it is number 0, and returns whether that was out of memory, with nothing
+ * written. */
+static int refuse_rows(long at) {
+  uint8_t rejected[3] = {9, 9, 9}, status = 9, got;
+  uint64_t p[3] = {0, 0, 0};
+  int is_out, is_own;
+  made = 0;
+  left = 0;
+  refused = at;
+  got = welungad_test_rows((const uint8_t *)CASE, strlen(CASE), p, 3, rejected, 3, &status, 1);
+  is_out = got == WELUNGAD_NO_MEMORY && rejected[0] == 9 && rejected[1] == 9 && rejected[2] == 9 && status == 9;
+  is_own = got == WELUNGAD_DONE && rejected[0] == 1 && rejected[1] == 1 && rejected[2] == 1 && status == WELUNGAD_DONE;
+  if (left != 0 || !(at ? is_out || (is_own && !all_after) : is_own)) {
+    findings++;
+    fprintf(stderr, "rows: allocation %ld refused: status %d, %ld blocks left\n", at, got, left);
+  }
+  return is_out;
+}
+
+static void try_rows(void) {
+  long count, at, out_of_memory = 0;
+  counting = 1;
+  refuse_rows(0);
+  count = made;
+  for (all_after = 0; all_after < 2; all_after++)
+    for (at = 1; at <= count; at++) out_of_memory += refuse_rows(at);
+  counting = 0;
+  fprintf(stderr, "rows: %ld allocations, %ld of %ld calls out of memory\n", count, out_of_memory, 2 * count);
+}
+
 int main(void) {
   static char proof[MOST];
   size_t length = 0;
@@ -113,6 +143,7 @@ int main(void) {
   try_call((struct call){"check\0-", 8, CASE, proof, length});
   try_call((struct call){"stages", 7, STAGED, "", 0});
   try_call((struct call){"canon\0--to\0json", 16, CASE, "", 0});
+  try_rows();
   fprintf(stderr, "test_memory: %d findings\n", findings);
   return findings != 0;
 }

@@ -1,12 +1,14 @@
-/* Welungad as a C library: words, a case and a proof in, a text and a status out.
+/* Welungad as a C library: words, a case and a proof in, a text and a status out. Two calls are for numbers: one reads doubles as
+ * fractions, one decides many rows of p-values on one graph.
  *
  * The text is the program's, byte for byte. Each call is independent: the library keeps nothing between calls, and touches no
  * file, device or global variable.
  *
  * What the caller owes. Nothing checks it, and no proof holds without it:
- * - No pointer is NULL, but those to no bytes: words, kase, proof and out may be NULL if their length is 0.
- * - The bytes at words, kase and proof stay as they are during the call. They may overlap each other.
- * - out and *needed overlap neither each other nor the inputs.
+ * - No pointer is NULL, but those to nothing: each may be NULL if its length is 0.
+ * - The pointers to uint64_t and to size_t are aligned as these types are.
+ * - The inputs (the pointers to const) stay as they are during the call. They may overlap each other.
+ * - The outputs (the other pointers) overlap neither each other nor the inputs.
  * - malloc, realloc and free are of one allocator, and align a block to each power of two up to 16 that divides its size.
  * - No call is made from a signal handler, or in the forked child of a process with threads.
  * - The thread has 512 KiB of stack left.
@@ -45,7 +47,8 @@ enum {
   WELUNGAD_TOO_WIDE = 5,   /* A number of the case or of the run does not fit into 128 bits. */
   WELUNGAD_ROOM = 7,       /* The text does not fit into out. *needed is the length of the whole text. */
   WELUNGAD_NO_MEMORY = 8,  /* Out of memory. The text is "no memory\n". */
-  WELUNGAD_WORDS = 10      /* The words are not UTF-8, or the last one has no byte 0 at its end. *needed is 0; out stays. */
+  WELUNGAD_WORDS = 10,     /* The words are not UTF-8, or the last one has no byte 0 at its end. *needed is 0; out stays. */
+  WELUNGAD_LENGTHS = 11    /* The lengths of a call on numbers don't fit each other. Nothing is written. */
 };
 
 /* Runs the program's command in memory, and returns its status. Statuses 2 to 5 come with one line as the text: the refusal.
@@ -60,6 +63,43 @@ enum {
  * needed  Becomes the length of the whole text. */
 uint8_t welungad_run(const uint8_t *words, size_t words_len, const uint8_t *kase, size_t kase_len, const uint8_t *proof,
                      size_t proof_len, uint8_t *out, size_t out_len, size_t *needed);
+
+/* Reads doubles as fractions: a number typed as 0.025 or 1/3 is read as that fraction.
+ *
+ * A double from 0 to 1 is read as the first of these that there is:
+ * 1. the fraction of the least denominator that rounds to it, if that denominator is at most 10000;
+ * 2. the decimal of the fewest places that rounds to it, if those are at most 30, and of several the nearest to the double;
+ * 3. the double rounded up to a multiple of 10^-30.
+ * Minus zero is read as 0. A NaN, a value below 0 and a value above 1 have no reading.
+ *
+ * bits    The bits of each double, as IEEE 754 encodes it: memcpy a double into the uint64_t.
+ * out     Four words for each double, so out_len is 4 * bits_len: the numerator, low word first, and the denominator, low word
+ *         first. The fraction is in lowest terms. A double without a reading gets four zeros; a denominator is 0 only then.
+ *
+ * Returns WELUNGAD_DONE with all of out written, or WELUNGAD_LENGTHS with nothing written. It allocates nothing. */
+uint8_t welungad_read(const uint64_t *bits, size_t bits_len, uint64_t *out, size_t out_len);
+
+/* Decides the case of a text with each of many rows of p-values in place of its own, as the command "test" would decide it.
+ *
+ * kase      The text of a case, with or without p-values, which are not used. A case with stages is malformed here.
+ * p         The bits of the p-values, row by row, each row in the order of the hypotheses. They are read as welungad_read reads
+ *           them.
+ * rejected  A mark for each p-value of p, in the same order, so rejected_len is p_len. It becomes 1 if the hypothesis is rejected
+ *           in the decision of its row, and else 0.
+ * statuses  A status for each row, so p_len is statuses_len times the number of hypotheses. It becomes
+ *           - WELUNGAD_DONE: the row is decided;
+ *           - WELUNGAD_MALFORMED: a p-value of the row has no reading;
+ *           - WELUNGAD_TOO_WIDE: a number of the run of the row does not fit into 128 bits.
+ *           With the last two no hypothesis of the row is decided, and all of its marks are 0.
+ *
+ * Returns WELUNGAD_DONE, and then each mark and each status of a row is written. With another status nothing is written:
+ * - WELUNGAD_MALFORMED, WELUNGAD_LIMIT or WELUNGAD_TOO_WIDE: the case is refused, whatever the rows are. If its text is, welungad_run
+ *   with the word "canon" answers with the line that says why. Else it has stages, or a number of the opening, before any
+ *   rejection, does not fit into 128 bits;
+ * - WELUNGAD_LENGTHS: the lengths don't fit the number of hypotheses;
+ * - WELUNGAD_NO_MEMORY: out of memory. */
+uint8_t welungad_test_rows(const uint8_t *kase, size_t kase_len, const uint64_t *p, size_t p_len, uint8_t *rejected,
+                           size_t rejected_len, uint8_t *statuses, size_t statuses_len);
 
 #ifdef __cplusplus
 }

@@ -38,7 +38,7 @@ esac
 if [ -n "${EDIT-}" ]; then echo edited >>src/main.rt; fi
 """
 
-# A library whose call asks for pointers, as the proved one does, and answers `ok`.
+# A library whose calls ask for pointers, as the proved ones do, and of which `welungad_run` answers `ok`.
 STUB = """
 #include <stddef.h>
 #include <stdint.h>
@@ -54,9 +54,21 @@ uint8_t welungad_run(const uint8_t *words, size_t words_len, const uint8_t *kase
   memcpy(out, "ok\\n", 3);
   return 0;
 }
+uint8_t welungad_read(const uint64_t *bits, size_t bits_len, uint64_t *out, size_t out_len) {
+  if (!bits || !out) abort();
+  return bits_len == out_len ? 0 : 11;
+}
+uint8_t welungad_test_rows(const uint8_t *kase, size_t kase_len, const uint64_t *p, size_t p_len, uint8_t *rejected,
+                           size_t rejected_len, uint8_t *statuses, size_t statuses_len) {
+  if (!kase || !p || !rejected || !statuses) abort();
+  return kase_len + p_len + rejected_len + statuses_len == 0 ? 3 : 0;
+}
 """
 
-# A caller that has no bytes to point at.
+# What the library exports.
+EXPORTED = "welungad_interface welungad_read welungad_run welungad_test_rows welungad_version".split()
+
+# A caller that has nothing to point at.
 CALLER = """
 #include <stdio.h>
 #include <welungad.h>
@@ -65,6 +77,8 @@ int main(void) {
   size_t needed = 0;
   if (welungad_run(NULL, 0, NULL, 0, NULL, 0, NULL, 0, &needed) != WELUNGAD_ROOM || needed != 3) return 1;
   if (welungad_run(NULL, 0, NULL, 0, NULL, 0, out, 3, &needed) != WELUNGAD_DONE) return 2;
+  if (welungad_read(NULL, 0, NULL, 0) != WELUNGAD_DONE) return 3;
+  if (welungad_test_rows(NULL, 0, NULL, 0, NULL, 0, NULL, 0) != WELUNGAD_MALFORMED) return 4;
   printf("%s %u\\n", welungad_version(), (unsigned)welungad_interface());
   return 0;
 }
@@ -641,11 +655,11 @@ class Library(Room):
         self.assertEqual(self.builds(), 9)
 
     def test_exports(self):
-        """Whether three names are global in both files, the soname has the interface, and a caller may hand in NULL for no bytes."""
+        """Whether five names are global in both files, the soname has the interface, and a caller may hand in NULL for no bytes."""
         self.builds()
         for words in (["-D", self.out("libwelungad.so")], ["-g", self.out("libwelungad.a")]):
             names = re.findall(r" [A-Z] (\S+)", self.call(["nm", "--defined-only", *words])[1])
-            self.assertEqual(sorted(names), ["welungad_interface", "welungad_run", "welungad_version"])
+            self.assertEqual(sorted(names), EXPORTED)
         self.assertIn("[libwelungad.so.1]", self.call(["readelf", "-d", self.out("libwelungad.so")])[1])
         self.assertEqual(os.readlink(self.out("libwelungad.so")), "libwelungad.so.1")
         self.assertEqual(os.readlink(self.out("libwelungad.so.1")), f"libwelungad.so.{content('VERSION').strip()}")

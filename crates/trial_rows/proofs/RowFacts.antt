@@ -13,8 +13,8 @@ use Rattle.typed_numbers.specs.Readings.{reading_of}
 -- what a row gives is by its own places
 pub same_row : (c : Content) (bits bits' marks marks' : ℕ → ℕ) (status : ℕ) → ((j : ℕ) → j < length c.names → bits' j ≡ bits j)
     → ((j : ℕ) → j < length c.names → marks' j ≡ marks j) → IsRowTested c bits marks status → IsRowTested c bits' marks' status
-same_row c bits bits' marks marks' status b m (decided e ps r each) =
-    decided e ps (record { count = r.count; each = λ j h. ap reading_of (b j h) ∙ r.each j h }) (λ j h. subst (IsMark _) (sym (m j h)) (each j h))
+same_row c bits bits' marks marks' status b m (decided e ps r run each) =
+    decided e ps (record { count = r.count; each = λ j h. ap reading_of (b j h) ∙ r.each j h }) run (λ j h. subst (IsMark _) (sym (m j h)) (each j h))
 same_row c bits bits' marks marks' status b m (unread e r none) =
     unread e (record { place = r.place; below = r.below; unread = ap reading_of (b r.place r.below) ∙ r.unread }) (λ j h. m j h ∙ none j h)
 same_row c bits bits' marks marks' status b m (wide e ps r step at w none) =
@@ -31,11 +31,11 @@ before_part : (xs ys : List ℕ) (a k i : ℕ) → i < a → a ≤ length xs →
 before_part xs ys a k i h g = search (rules, places)
 
 -- what is in a part that is written
-in_part : (xs ys : List ℕ) (a k j : ℕ) → j < length ys → a ≤ length xs → get_or (put_mid a k xs ys) (a + j) 0 ≡ get_or ys j 0
+pub in_part : (xs ys : List ℕ) (a k j : ℕ) → j < length ys → a ≤ length xs → get_or (put_mid a k xs ys) (a + j) 0 ≡ get_or ys j 0
 in_part xs ys a k j h g = search (rules, places)
 
 -- what is in rows before a row that is written stays
-earlier_row : (xs ys : List ℕ) (m n row k j : ℕ) → k < row → j < m → row * m ≤ length xs → in_row m (put_mid (row * m) n xs ys) k j ≡ in_row m xs k j
+pub earlier_row : (xs ys : List ℕ) (m n row k j : ℕ) → k < row → j < m → row * m ≤ length xs → in_row m (put_mid (row * m) n xs ys) k j ≡ in_row m xs k j
 earlier_row xs ys m n row k j h g l = before_part xs ys (row * m) n (k * m + j) (let p = row_within m k row (row * m) h refl in omega (arith, p)) l
 
 -- ---- one row more

@@ -33,9 +33,14 @@ IsMark P mark = (P × (mark ≡ 1)) ⊎ ((¬ P) × (mark ≡ 0))
 abbrev pub AreUnmarked : ℕ → (ℕ → ℕ) → Type 0
 AreUnmarked m marks = (j : ℕ) → j < m → marks j ≡ 0
 
--- What a row of doubles gives, of a case of `m` hypotheses: marks, one for each hypothesis, and a status.
+-- the written run of the decision with these p-values is defined
+abbrev pub IsRunDefined : Content → List Ratio → Type 0
+IsRunDefined c ps = (step : ℕ) (at : WideAt) → ¬ IsWideDecision (with_p c ps) First step at
+
+-- What a row of doubles gives: a mark for each hypothesis of the case, and a status. Exactly one of the three is so, since doubles have one reading
+-- at most: each double has a reading, and the run with these is defined; one has none; or each has one, and the run is undefined.
 pub data IsRowTested (c : Content) (bits marks : ℕ → ℕ) (status : ℕ) : Type 0 where
-  decided : status ≡ 0 → (ps : List Ratio) → AreReadings (length c.names) bits ps
+  decided : status ≡ 0 → (ps : List Ratio) → AreReadings (length c.names) bits ps → IsRunDefined c ps
       → ((j : ℕ) → j < length c.names → IsMark (IsRejectedIn (with_p c ps) j) (marks j)) → IsRowTested c bits marks status
   unread : status ≡ 3 → HasUnread (length c.names) bits → AreUnmarked (length c.names) marks → IsRowTested c bits marks status
   wide : status ≡ 5 → (ps : List Ratio) → AreReadings (length c.names) bits ps → (step : ℕ) → (at : WideAt)
@@ -60,8 +65,12 @@ abbrev pub of_opening : OpenFault → RowsFault
 of_opening (openings.Wide at) = Wide at
 of_opening openings.NoMemory = NoMemory
 
--- Why no row is decided. Nothing is claimed of out-of-memory.
+-- Why no row is decided: the lengths don't fit; or they do, and the opening is undefined, or the call is out of memory.
 abbrev pub IsRowsFault : Content → ℕ → ℕ → ℕ → RowsFault → Type 0
 IsRowsFault c doubles marks rows Lengths = ¬ AreRows (length c.names) doubles marks rows
-IsRowsFault c doubles marks rows (Wide at) = case_opening c ≡ Err at
-IsRowsFault c doubles marks rows NoMemory = Unit {0}
+IsRowsFault c doubles marks rows (Wide at) = AreRows (length c.names) doubles marks rows × (case_opening c ≡ Err at)
+IsRowsFault c doubles marks rows NoMemory = AreRows (length c.names) doubles marks rows
+
+-- the opening of the case is defined
+abbrev pub IsOpeningDefined : Content → Type 0
+IsOpeningDefined c = (at : WideAt) → ¬ (case_opening c ≡ Err at)

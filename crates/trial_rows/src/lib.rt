@@ -1,9 +1,11 @@
 //! Decisions on many rows of p-values of one case.
 //!
 //! Proved, of `test_rows`:
-//! - `rows`, of each row by its status. 0: a mark is 1 exactly if the closed test rejects the hypothesis with the readings of the
-//!   doubles of the row, and else 0. 3: a double has no reading. 5: the written run is undefined. With 3 and 5 each mark is 0.
-//! - `fault`: why no row is decided. `rejected`, `statuses`: then nothing is written.
+//! - `rows`, of each row by its status. 3 exactly if a double has no reading, else 5 exactly if the written run with the readings is
+//!   undefined; then each mark is 0. Else 0, and a mark is 1 exactly if the closed test rejects the hypothesis with the readings of
+//!   the doubles of the row, and else 0.
+//! - `fit`, `opening`, `fault`: unless out of memory, no row is decided exactly if the lengths don't fit or the opening is undefined.
+//!   `rejected`, `statuses`: then nothing is written.
 #![tactic(auto)]
 
 mod fault;

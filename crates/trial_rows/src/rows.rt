@@ -5,7 +5,7 @@ ghost use Rattle.entangled.specs.CaseNetView.{case_state};
 ghost use Rattle.entangled.specs.CaseRun.{case_opening};
 ghost use Rattle.sequential.specs.OtherPValues.{IsTrialOfGraph};
 ghost use Rattle.sequential.specs.TrialView.{trial};
-ghost use Rattle.trial_rows.specs.Rows.{AreRows, AreRowsTested, IsRowsFault};
+ghost use Rattle.trial_rows.specs.Rows.{AreRows, AreRowsTested, IsRowsFault, IsOpeningDefined};
 
 use crate::RowsFault;
 use crate::row::test_row;
@@ -68,7 +68,10 @@ fn test_each(
 /// `p` has the bits of the doubles, and `rejected` a mark for each hypothesis, both row by row. `statuses` has a status for each
 /// row. A row whose doubles can all be read is decided with the readings. Its status is then 0, and its marks are 1 for the
 /// hypotheses that the closed test rejects and 0 for the others. The status is 3 if a double has no reading, and 5 if the run is
-/// undefined; all marks of the row are then 0. If no row is decided, nothing is written.
+/// undefined; all marks of the row are then 0.
+///
+/// Errors, with which nothing is written: `Lengths` exactly if there aren't a double and a mark for each hypothesis in each row, else
+/// `Wide` if the opening is undefined, or `NoMemory`.
 pub fn test_rows(
     alloc: Global,
     case: &Case,
@@ -77,6 +80,7 @@ pub fn test_rows(
     statuses: &mut [u8],
 ) -> Result<(), RowsFault>
     ensures fit { OnOk result (AreRows (length (content case.now).names) (length p.now) (length rejected.old) (length statuses.old)) }
+    ensures opening { OnOk result (IsOpeningDefined (content case.now)) }
     ensures rows { OnOk result (AreRowsTested (content case.now) p.now rejected.new statuses.new) }
     ensures fault { IfErr result (IsRowsFault (content case.now) (length p.now) (length rejected.old) (length statuses.old)) }
     ensures rejected { OnErr result (rejected.new ≡ rejected.old) }

@@ -15,14 +15,18 @@ ghost use Rattle.welungad_c.specs.Words.{AreWords};
 ghost use Rattle.welungad_c.specs.Calls.{Answers, HasNoWords};
 
 mod delivery;
+mod readings;
 mod reply;
+mod rows;
 #[cfg(test)]
 mod tests;
 mod words;
 
 use delivery::deliver;
 use field_core::NoMemory;
+use readings::write_readings;
 use reply::Reply;
+use rows::test_text;
 use std::alloc::Global;
 use words::{NoWords, read_words};
 
@@ -67,4 +71,39 @@ pub extern "C" fn welungad_run(
             10
         }
     }
+}
+
+/// Reads doubles, given by their bits, as the fractions that they stand for.
+///
+/// `out` gets four words for each double: the numerator and then the denominator, each as its low word and its high word. A
+/// double without a reading gets four zeros.
+///
+/// Statuses: 0 written. 11: `out` doesn't have four words for each double; then it stays.
+#[unsafe(no_mangle)]
+pub extern "C" fn welungad_read(bits: &[u64], out: &mut [u64]) -> u8 {
+    if out.len() % 4 != 0 || out.len() / 4 != bits.len() {
+        return 11;
+    }
+    write_readings(bits, out);
+    0
+}
+
+/// Decides the case of a text with each of many rows of p-values in place of its own; it may have none.
+///
+/// `p` has the bits of the doubles, and `rejected` a mark for each hypothesis, both row by row. `statuses` has a status for each
+/// row. It becomes 0 if the row is decided, and then a mark is 1 if its hypothesis is rejected and else 0. It becomes 3 if a
+/// double of the row has no reading, and 5 if the run is undefined; then all marks of the row are 0.
+///
+/// Statuses: 0 each row has its status. 3, 4, 5: the text is refused, as `canon` refuses it, or its opening is undefined; 3 also
+/// if it has stages. 8: out of memory. 11: there aren't a double and a mark for each hypothesis in each row. With each but 0
+/// nothing is written.
+#[unsafe(no_mangle)]
+pub extern "C" fn welungad_test_rows(
+    alloc: Global,
+    case: &[u8],
+    p: &[u64],
+    rejected: &mut [u8],
+    statuses: &mut [u8],
+) -> u8 {
+    test_text(alloc, case, p, rejected, statuses)
 }

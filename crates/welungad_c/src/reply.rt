@@ -39,7 +39,7 @@ impl Reply {
 }
 
 /// Returns a source of a copy of these bytes.
-fn source(alloc: Global, bytes: &[u8]) -> Result<MemorySource, NoMemory>
+pub(crate) fn source(alloc: Global, bytes: &[u8]) -> Result<MemorySource, NoMemory>
     ensures { IfOk result (λ source. bytes_left source ≡ bytes.now) }
 {
     let mut copy = List::new(alloc);

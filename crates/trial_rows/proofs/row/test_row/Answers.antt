@@ -15,7 +15,7 @@ returns-in-Ok-clause-row c =
     let ps = c.read_all.new.p_values in
     let t = trial c.reject_all.new.current in
     let read : AreReadings (length k.names) bits ps = subst (λ n. AreReadings n bits ps) c.requires.doubles (c.read_all.ensures.read c.if-not-read_all.false) in
-    decided refl ps read (λ j h. moved_mark (IsListed t.rejected j) (IsRejectedIn (with_p k ps) j) _
+    decided refl ps read (c.in-Ok.ensures.defined (with_p k ps) c.reopen_with-current.ensures.trial) (λ j h. moved_mark (IsListed t.rejected j) (IsRejectedIn (with_p k ps) j) _
     (c.in-Ok.ensures.all (with_p k ps) j c.reopen_with-current.ensures.trial)
     (c.mark_all.ensures j (omega (arith, h, c.requires.marks, c.mark_all.auto.marks))))
 
