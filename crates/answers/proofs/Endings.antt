@@ -13,8 +13,8 @@ use Rattle.answers.specs.declared.stop.Stop.{Stop}
 use Rattle.answers.specs.declared.stop.Stop.TheVariants.{Refused, ReadFault, KeeperFault, NoMemory}
 use Rattle.answers.specs.Codes.{cause_code, status_code}
 use Rattle.answers.specs.Lines.{refused, read_fault, no_memory, keeper_fault}
-use Rattle.answers.specs.Runs.{Runs, Finished, MayAnswer, IsPutBriefly, text_of, status_of}
-use Rattle.answers.specs.Ways.{Ways, EndsIn}
+use Rattle.answers.specs.Runs.{Runs, Finished, MayAnswer, IsPutBriefly, text_of, status_of, IsConcluded}
+use Rattle.answers.specs.Ways.{Ways, EndsIn, IfConcluded}
 
 cause_low : (c : Cause) → (cause_code c ≤ 5) × (1 ≤ cause_code c)
 cause_low Usage = (omega arith, omega arith)
@@ -114,3 +114,19 @@ pub done_by : (rose same : Type 0) (old new : Option (List ℕ)) (outcome : Resu
 done_by rose same old new (Ok a) status P p f z = p
 done_by rose same old new (Err stop) status P p (inl x) z = absurd (not_done stop (sym x.0 ∙ z))
 done_by rose same old new (Err stop) status P p (inr x) z = let e = x.0 in absurd (omega arith)
+
+-- 6, 7 and 8 aren't statuses of concluded calls
+unconcluded : (status n : ℕ) → 6 ≤ n → n ≤ 8 → status ≡ n → IsConcluded status → ⊥
+unconcluded status n low high e (inl x) = absurd (omega arith)
+unconcluded status n low high e (inr x) = absurd (omega arith)
+
+-- a status of a concluded call comes only with its outcome
+pub concluded_by : (rose same : Type 0) (old new : Option (List ℕ)) (outcome : Result Answer Stop) (status : ℕ) (P : Type 0) → IfConcluded P outcome
+    → Finished rose same old new (text_of outcome) (status_of outcome) status → IsConcluded status → P
+concluded_by rose same old new (Ok a) status P p f z = p
+concluded_by rose same old new (Err (Refused r)) status P p f z = p
+concluded_by rose same old new (Err KeeperFault) status P p f z = p
+concluded_by rose same old new (Err ReadFault) status P p (inl x) z = absurd (unconcluded status 6 (omega arith) (omega arith) x.0 z)
+concluded_by rose same old new (Err ReadFault) status P p (inr x) z = absurd (unconcluded status 7 (omega arith) (omega arith) x.0 z)
+concluded_by rose same old new (Err NoMemory) status P p (inl x) z = absurd (unconcluded status 8 (omega arith) (omega arith) x.0 z)
+concluded_by rose same old new (Err NoMemory) status P p (inr x) z = absurd (unconcluded status 7 (omega arith) (omega arith) x.0 z)

@@ -5,7 +5,7 @@ use Rattle.answers.specs.declared.refusal.Refusal.{Refusal}
 use Rattle.answers.specs.declared.stop.Stop.{Stop}
 use Rattle.answers.specs.declared.stop.Stop.TheVariants.{Refused, ReadFault, KeeperFault, NoMemory}
 use Rattle.answers.specs.Stages.{Stage}
-use Rattle.answers.specs.Ways.{Ways, StopsIn, EndsIn, over_values, over_source}
+use Rattle.answers.specs.Ways.{Ways, StopsIn, EndsIn, IfConcluded, over_values, over_source}
 
 -- a stop, by what holds at each
 abbrev pub StopsBy : (Refusal → Type 0) → (read keeper memory : Type 0) → Stop → Type 0
@@ -50,3 +50,26 @@ pub source_ends : {A : Type 0} (part : Stage Refusal A) (rose clean : Type 0) (w
 source_ends part rose clean whole (Ok x) gives refuses read memory h = gives x h.0 h.1
 source_ends part rose clean whole (Err stop) gives refuses read memory h =
     source_stops part.Refuses whole.Refuses whole.read whole.keeper whole.memory rose clean stop refuses read memory h
+
+-- a fact that holds of each end
+pub concluded : {A : Type 0} (P : Type 0) (r : Result A Stop) → P → IfConcluded P r
+concluded P (Ok x) p = p
+concluded P (Err (Refused q)) p = p
+concluded P (Err ReadFault) p = tt
+concluded P (Err KeeperFault) p = p
+concluded P (Err NoMemory) p = tt
+
+-- a step over sources that doesn't refuse stops by a read fault or out of memory
+unrefused : {A : Type 0} (B P : Type 0) (s : Stage Refusal A) (rose clean : Type 0) (stop : Stop) → ((q : Refusal) → s.Refuses q → ⊥)
+    → StopsIn (over_source s rose clean) stop → IfConcluded {A = B} P (Err stop)
+unrefused B P s rose clean (Refused q) none h = absurd (none q h.0)
+unrefused B P s rose clean ReadFault none h = tt
+unrefused B P s rose clean KeeperFault none h = absurd h
+unrefused B P s rose clean NoMemory none h = tt
+
+-- so of such a stop that is handed on nothing is left to show
+pub unrefused_handed_on : {A B : Type 0} (P : Type 0) (s : Stage Refusal A) (rose clean : Type 0) (r : Result B Stop) (stop : Stop)
+    → IsErrAnd r (λ e. e ≡ stop) → ((q : Refusal) → s.Refuses q → ⊥) → StopsIn (over_source s rose clean) stop → IfConcluded P r
+unrefused_handed_on P s rose clean (Ok x) stop e none h = absurd e
+unrefused_handed_on {A} {B} P s rose clean (Err x) stop e none h =
+    subst (λ t. IfConcluded {A = B} P (Err t)) (sym e) (unrefused B P s rose clean stop none h)

@@ -19,6 +19,10 @@ abbrev pub status_of : Result Answer Stop → ℕ
 status_of (Ok a) = status_code a.status
 status_of (Err stop) = stop_code stop
 
+-- the status of a call that gave a value or was refused, or whose keeper had a fault
+abbrev pub IsConcluded : ℕ → Type 0
+IsConcluded status = (status ≤ 5) ⊎ (status ≡ 9)
+
 -- A text was put without a fault of the sink, and its status returned. Or the sink had a fault and holds a prefix of the text, and the status is 7.
 abbrev pub Finished : Type 0 → Type 0 → Option (List ℕ) → Option (List ℕ) → List ℕ → ℕ → ℕ → Type 0
 Finished rose same old new text status result = ((result ≡ status) × Appends old new text × same) ⊎ ((result ≡ 7) × rose × AppendsPrefix old new text)

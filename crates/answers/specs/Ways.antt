@@ -25,6 +25,14 @@ abbrev pub EndsIn : {A : Type 0} → Ways A → Result A Stop → Type 0
 EndsIn w (Ok x) = w.Gives x
 EndsIn w (Err stop) = StopsIn w stop
 
+-- a fact unless a source had a fault or memory was exhausted: a call gives a value, is refused, or the keeper had a fault
+abbrev pub IfConcluded : {A : Type 0} → Type 0 → Result A Stop → Type 0
+IfConcluded P (Ok x) = P
+IfConcluded P (Err (Refused r)) = P
+IfConcluded P (Err ReadFault) = Unit {0}
+IfConcluded P (Err KeeperFault) = P
+IfConcluded P (Err NoMemory) = Unit {0}
+
 -- The ways of a stage over values: no device is asked. Nothing is claimed of out-of-memory.
 abbrev pub over_values : {A : Type 0} → Stage Refusal A → Ways A
 over_values s = record { Gives = s.Gives; Refuses = s.Refuses; read = ⊥; keeper = ⊥; memory = Unit {0} }

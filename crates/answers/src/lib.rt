@@ -4,7 +4,8 @@
 //! of memory. Its value and its refusals come by stages: the first stage that refuses decides.
 //!
 //! Proved:
-//! - `take_whole`: `ends`, `end`, how many bytes an error leaves `taken`, and how many calls are made (`turns`).
+//! - `take_whole`: `ends`, `end`, how many bytes an error leaves `taken`, that it calls the source (`asked`), and how many calls
+//!   it makes (`turns`).
 //! - `conclude`: the text that is put of each outcome, its status, and how many calls are made (`turns`).
 //! - Lemmas: a call that ends in its ways and is concluded meets the clause by status (`Runs`); a chain of stages has one answer.
 #![tactic(auto)]
