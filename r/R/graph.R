@@ -48,7 +48,7 @@ as_text <- function(read) {
 # The texts of numbers as they are handed in: each element is one word. Only what was given as a text can be another one.
 number_texts <- function(x, what) {
   texts <- as_text(x$read)
-  if (!any(x$rule == "text")) return(texts)
+  if (!"text" %in% x$rule) return(texts)
   wrong <- which(!nzchar(texts) | grepl("[[:space:][:cntrl:]]", texts))
   if (length(wrong)) stop_at(what, place_text(wrong[1], x$names), " is ", quoted(texts[wrong[1]]), ", which is not one number")
   texts
@@ -177,7 +177,7 @@ read_p <- function(p, graph) {
 
 # Reports the p-values that were rounded up.
 report_rounded <- function(p, labels) {
-  for (i in which(p$rule == rounded_up)) {
+  if (rounded_up %in% p$rule) for (i in which(p$rule == rounded_up)) {
     say_rounded(sprintf("The p-value %s of %s was rounded up to %s, a multiple of 10^-30.", p$given[i], labels[i], p$read[i]))
   }
 }

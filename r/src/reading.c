@@ -246,3 +246,28 @@ SEXP welungad_readings(SEXP doubles, SEXP own) {
   UNPROTECT(1);
   return result;
 }
+
+/* ---- the other way */
+
+/* Reads a whole number of 1 to 15 digits, which is a double, and returns where the text continues; NULL if there is none. */
+static const char *short_whole(const char *text, double *value) {
+  int count = 0;
+  *value = 0;
+  for (; *text >= '0' && *text <= '9'; text++, count++) *value = *value * 10 + (*text - '0');
+  return count >= 1 && count <= 15 ? text : NULL;
+}
+
+/* Returns the doubles of texts that are whole numbers or fractions of parts of at most 15 digits; NA for other texts. */
+SEXP welungad_short_doubles(SEXP texts) {
+  if (TYPEOF(texts) != STRSXP) error("texts are needed");
+  R_xlen_t len = XLENGTH(texts);
+  SEXP result = PROTECT(allocVector(REALSXP, len));
+  for (R_xlen_t i = 0; i < len; i++) {
+    double n, d = 1;
+    const char *rest = STRING_ELT(texts, i) == NA_STRING ? NULL : short_whole(CHAR(STRING_ELT(texts, i)), &n);
+    if (rest && *rest == '/') rest = short_whole(rest + 1, &d);
+    REAL(result)[i] = rest && *rest == 0 && d > 0 ? n / d : NA_REAL;
+  }
+  UNPROTECT(1);
+  return result;
+}

@@ -146,6 +146,7 @@ static const R_CallMethodDef calls[] = {
   {"welungad_rows", (DL_FUNC)&welungad_rows, 2},
   {"welungad_fractions", (DL_FUNC)&welungad_fractions, 2},
   {"welungad_readings", (DL_FUNC)&welungad_readings, 2},
+  {"welungad_short_doubles", (DL_FUNC)&welungad_short_doubles, 1},
   {NULL, NULL, 0},
 };
 
