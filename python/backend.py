@@ -3,7 +3,8 @@
     pip install --no-build-isolation ./python
 
 A wheel has the library of the checkout or of the installation that this folder lies in, or the one that WELUNGAD_LIBRARY names, if
-it is the one that its stamp names. Without a library the wheel has none, and the package looks for one when it is first used.
+it is the one that its stamp names. Without a library the wheel has none, and the package looks for one when it is first used. So it
+is with the scripts that make a page of a decision, which are those of the folder tools beside this one.
 
 setuptools below 70.1 cannot write a wheel without the package `wheel`, which no environment has by itself. Nothing is written
 to this folder, which may be one that only its owner writes.
@@ -44,6 +45,7 @@ def build_wheel(wheel_directory: str, config_settings: Settings = None, metadata
         _run_setuptools(folder)
         room = os.path.join(folder, "lib")
         has_library = _add_library(os.path.join(room, "welungad"))
+        _add_scripts(os.path.join(room, "welungad"))
         return _write(wheel_directory, room, _metadata(folder), has_library)
 
 
@@ -124,6 +126,26 @@ def _add_library(package: str) -> bool:
         stamp.write(f"sha256 {_LIBRARY} {hashlib.sha256(file.read()).hexdigest()}\n")
         stamp.write(f"program {program}\n" if program else "")
     return True
+
+
+# ---- the scripts
+
+
+def _add_scripts(package: str) -> None:
+    """Copies the scripts that make a page, and the page of the causes of refusals, into the package, if they are there."""
+    sys.path.insert(0, _HERE)
+    from welungad import _page
+
+    try:
+        tools = _page.tools()
+    except OSError:
+        return
+    copies = {os.path.join("tools", f"{name}.py"): os.path.join(tools, f"{name}.py") for name in _page.SCRIPTS}
+    copies[_page.CAUSES] = os.path.join(os.path.dirname(tools), _page.CAUSES)
+    for place, path in copies.items():
+        copy = os.path.join(package, _page.COPY, place)
+        os.makedirs(os.path.dirname(copy), exist_ok=True)
+        shutil.copyfile(path, copy)
 
 
 # ---- the wheel

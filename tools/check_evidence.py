@@ -129,8 +129,8 @@ class Lines:
     """The lines of a text that are not skipped, each with its place."""
 
     def __init__(self, text, kind):
-        lines = text.removesuffix("\n").split("\n") if text else []
-        rows = [(f"{kind} {n}", line.removesuffix("\r").strip(" \t")) for n, line in enumerate(lines, 1)]
+        lines = re.sub("\n\\Z", "", text).split("\n") if text else []
+        rows = [(f"{kind} {n}", re.sub("\r\\Z", "", line).strip(" \t")) for n, line in enumerate(lines, 1)]
         self.rows = [(where, line) for where, line in rows if line and line[0] != "#"] + [(f"{kind} {len(lines) + 1}", "")]
 
     def first(self):
@@ -257,7 +257,7 @@ def read_json(text):
 
 def read_case(text, form="text", alpha=None):
     """A valid case, whose edges are polynomials at pairs of positions. Each rule is tested of all parts before the next."""
-    case = read_text(text) if form == "text" else read_json(text) if form == "json" else read_sheet(text.removeprefix("\xef\xbb\xbf"), alpha)
+    case = read_text(text) if form == "text" else read_json(text) if form == "json" else read_sheet(re.sub("\\A\xef\xbb\xbf", "", text), alpha)
     names, parts, no = case.names, [*enumerate(case.components, 1)], "malformed: case"
     edges = [(c, i, j, edge) for c, part in parts for i, j, edge in part.edges]
     require(names, no, "no hypothesis")

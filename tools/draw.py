@@ -22,6 +22,7 @@ from reports import NotAReport, read_test
 COLOURS = ["#1f4e9e", "#b3541e", "#2e7d32", "#7b1fa2", "#00838f", "#8d6e00", "#ad1457", "#455a64"]
 RADIUS, GAP, HIGH = 40, 200, 215
 POWERS = ["", "ε", "ε²", "ε³", "ε⁴"]
+LONGEST = 40
 
 
 def decimal(x):
@@ -34,6 +35,11 @@ def short(x):
     return str(x) if len(str(x)) <= 9 else f"≈{float(x):.4g}"
 
 
+def shown(name):
+    """A name in a picture: of a long one its beginning and its end."""
+    return name if len(name) <= LONGEST else f"{name[:LONGEST - 16]}…{name[-15:]}"
+
+
 def edge_text(polynomial):
     """An edge as `welungad canon` prints it, but for long fractions and the signs of epsilon and of products. A text stays."""
     if isinstance(polynomial, str):
@@ -44,7 +50,7 @@ def edge_text(polynomial):
             size = "" if abs(x) == 1 and power else short(abs(x))
             epsilon = POWERS[power] if power < len(POWERS) else f"ε^{power}"
             text += ("−" if x < 0 else "+") + size + ("·" if size and power else "") + epsilon
-    return text.removeprefix("+")
+    return text[1:] if text.startswith("+") else text
 
 
 def row_of(count, y, wide):
@@ -149,7 +155,7 @@ def circle(case, i, centre, step):
     if len(name) <= 10:
         drawn.append(text_at(x, y - 11, name, min(16, 2 * RADIUS / (0.7 * max(len(name), 4))), weight="bold"))
     else:
-        drawn.append(text_at(x, y + (RADIUS + 25) * (-1 if down <= 0 else 1), name, 12, weight="bold"))
+        drawn.append(text_at(x, y + (RADIUS + 25) * (-1 if down <= 0 else 1), shown(name), 12, weight="bold"))
     weights = [(short(part.weights[i]), COLOURS[c % 8] if len(case.components) > 1 else "#111") for c, part in enumerate(case.components)
                if part.weights[i] is not None]
     wide = 2 * RADIUS * 0.75 / max(1, len(weights))
@@ -186,7 +192,7 @@ def frame(case, edges, centre, lines):
     """The left, upper, right and lower end of a picture, which has the lines of the legend at its lower end."""
     xs, ys = [[x for x, _ in centre], [y for _, y in centre]]
     far = max([0, *(abs(bow_of(edges, i, j, c, centre)) for i, j, c, _ in edges if ys[i] == ys[j])])
-    side = max(75, *(4 * len(name) for name in case.names))
+    side = max(75, *(4 * len(shown(name)) for name in case.names))
     high = max(RADIUS + (40 if any(len(name) > 10 for name in case.names) else 25), far + 18)
     bends = [Curve(centre[i], centre[j], bow_of(edges, i, j, c, centre)).at(t) for i, j, c, _ in edges for t in (0.25, 0.5, 0.75)]
     left = min([min(xs) - side, *(x - 30 for x, _ in bends)])

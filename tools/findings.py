@@ -18,16 +18,18 @@ class Refused(Exception):
 class Findings:
     """A case, and what the program prints of it."""
 
-    def __init__(self, given, run, form="text", alpha=None, labels=None):
+    def __init__(self, given, run, form="text", alpha=None, labels=None, priority=None):
         self.run, self.given = run, given
+        self.priority = ["--priority", priority] if priority else []
         self.canonical = self.ask(["canon", *words_of(form, alpha)], given)
         self.before, self.staging = parted(self.canonical)
         self.is_staged = bool(self.staging)
         self.case = self.read_canonical()
         self.compare_with_given(form, alpha)
         self.names, self.alpha = self.case.names, self.case.alpha
-        self.labels = dict(zip(self.names, labels or self.names))
-        if len({*(labels or self.names)}) != len(self.names) or len(labels or self.names) != len(self.names):
+        labels = self.names if labels is None else labels
+        self.labels = dict(zip(self.names, labels))
+        if len({*labels}) != len(self.names) or len(labels) != len(self.names):
             raise ValueError(f"labels: {len(self.names)} different ones are needed, one for each hypothesis")
         self.start = {name: sum(part.share * part.weights[k] for part in self.case.components) for k, name in enumerate(self.names)}
         self.read_decision()
@@ -35,7 +37,7 @@ class Findings:
         self.compare_weights()
         self.weights = self.maybe("weights", read_weights) if len(self.names) <= MOST_SETS else None
         self.bounds = self.maybe("bounds", read_bounds) if len(self.names) <= MOST_BOUNDS and not self.is_staged else None
-        self.evidence = None if self.is_staged else self.run(["evidence"], self.canonical)[0]
+        self.evidence = None if self.is_staged else self.run(["evidence", *self.priority], self.canonical)[0]
 
     def ask(self, words, case):
         """Returns the text that a command prints. `Refused`: the command is refused."""
@@ -87,13 +89,15 @@ class Findings:
     def read_decision(self):
         """Reads the decision, and which names it rejects in which order."""
         if self.is_staged:
-            self.decision = read_stages(self.ask(["stages"], self.canonical), self.names)
+            self.report = self.ask(["stages"], self.canonical)
+            self.decision = read_stages(self.report, self.names)
             self.order = [rejection.name for look in self.decision.looks for rejection in look.rejections]
             arrived = [(words[1], int(words[2]), Fraction(words[3])) for words in self.staging if words[0] == "arrive"]
             if [(look.name, look.stage, look.p) for look in self.decision.looks] != arrived:
                 raise NotAReport("the report of stages has other looks than the case")
         else:
-            self.decision = read_test(self.ask(["test"], self.canonical), self.names)
+            self.report = self.ask(["test", *self.priority], self.canonical)
+            self.decision = read_test(self.report, self.names)
             self.order = [step.name for step in self.decision.steps]
             given = {step.name: step.p for step in [*self.decision.steps, *self.decision.kept]}
             if [given[name] for name in self.names] != self.case.p:
@@ -189,7 +193,7 @@ def parted(text):
     """Returns the part of a text before its stages, and the words of the lines of its stages."""
     lines = text.split("\n")
     at = next((n for n, line in enumerate(lines) if re.match("[ \t]*stages[ \t]", line)), len(lines))
-    words = [line.removesuffix("\r").split() for line in lines[at:]]
+    words = [re.sub("\r\\Z", "", line).split() for line in lines[at:]]
     return "\n".join(lines[:at]) + ("\n" if at < len(lines) else ""), [it for it in words if it and it[0][0] != "#"]
 
 
@@ -223,4 +227,4 @@ def edge_label(above, below):
     if len(text) <= 15:
         return text
     first, second = (next(i for i, x in enumerate(part) if x) for part in (above, below))
-    return "≈" + draw.edge_text([Fraction(0)] * (first - second) + [Fraction(above[first], below[second])]).removeprefix("≈")
+    return "≈" + re.sub("^≈", "", draw.edge_text([Fraction(0)] * (first - second) + [Fraction(above[first], below[second])]))

@@ -8,13 +8,21 @@ it says of the decision is what `welungad` prints, which is read strictly: if a 
 case, the script ends with status 1 and a line on standard error, and there is no page. A case that `welungad` refuses has a page
 too, with the cause and the cure of the line; the status is then that of `welungad`.
 
+    --priority WORD   first, last or ratio, as for `welungad test`
+    --title TEXT      what stands above the page
+    --labels FILE     the user's names of the hypotheses, in their order, each ended by a byte 0
+    --report FILE     a report of this decision: there is no page unless the program prints it again
+    --out FILE        where the page is written; the file has all of it, or stays as it was
+
 The program prints weights and no edges. So the edges after a rejection are computed here for the pictures, and each weight that
 they give is compared with the one that the program prints.
 """
 import argparse
+import contextlib
 import hashlib
 import os
 import re
+import secrets
 import shlex
 import shutil
 import subprocess
@@ -50,6 +58,8 @@ thead th { border-top-width: 1px; }
 tr > :first-child { border-left-width: 1px; }
 thead th { background: #eef1f4; vertical-align: bottom; }
 tbody th { background: #fff; background-clip: padding-box; position: sticky; left: 0; }
+th { min-width: 5rem; max-width: 20rem; overflow-wrap: anywhere; }
+h1, .answer, p, td, figcaption { overflow-wrap: break-word; }
 tr.rejected > th { background: #cfe3cf; }
 .decimal { color: #444; white-space: nowrap; }
 .whole { white-space: nowrap; }
@@ -347,7 +357,7 @@ def refusal_list(refused):
 
 def given_text(given, line=None):
     """The user's text, escaped; with the number of a line, that line is marked."""
-    lines = given.encode("utf-8", "surrogateescape").decode("utf-8", "replace").removesuffix("\n").split("\n")
+    lines = re.sub("\n\\Z", "", given.encode("utf-8", "surrogateescape").decode("utf-8", "replace")).split("\n")
     marked = [f"<mark>{escape(it)}</mark>" if n == line else escape(it) for n, it in enumerate(lines, 1)]
     return "<pre>" + "\n".join(marked) + "</pre>"
 
@@ -358,13 +368,14 @@ def digest(text):
 
 def commands(findings, file, words):
     """The command lines that repeat the decision and check it."""
-    source, test = shlex.quote(file), "stages" if findings.is_staged else "test"
+    source, priority = shlex.quote(file), "".join(" " + word for word in findings.priority)
+    test = "stages" if findings.is_staged else "test" + priority
     options = "".join(" " + shlex.quote(word) for word in words)
     repeat = [f"welungad canon{options} < {source} > case.txt", "sha256sum case.txt", f"welungad {test} < case.txt > report.txt"]
     parts = ["<h3>To repeat it</h3>", "<pre>" + escape("\n".join(repeat)) + "</pre>"]
     if findings.is_staged:
         return parts + ["<p>There is no evidence for a staged trial: the same program decides again.</p>"]
-    made = ["welungad evidence < case.txt > evidence.txt", "welungad check evidence.txt < case.txt"]
+    made = [f"welungad evidence{priority} < case.txt > evidence.txt", "welungad check evidence.txt < case.txt"]
     if findings.evidence:
         parts.append(f"<p>The program makes no evidence here: <code>evidence</code> ends with status {findings.evidence}. So a script makes "
                      "it. The program can often check what the script made; if it refuses that too, the next script alone checks it.</p>")
@@ -411,9 +422,9 @@ def way_round(refused, file, words):
     ]
 
 
-def refusal_page(refused, given, file, words, program):
+def refusal_page(refused, given, file, words, program, title):
     """The page about a case that the program refuses."""
-    title = f"No decision: {file} is refused"
+    title = title or f"No decision: {file} is refused"
     found = re.match(r"(?:malformed|limit): (?:line|row) (\d+)", refused.args[2])
     line = int(found[1]) if found and "line" in found[0] else None
     options = "".join(" " + shlex.quote(word) for word in words)
@@ -427,10 +438,9 @@ def refusal_page(refused, given, file, words, program):
     ])
 
 
-def decision_page(findings, file, words, program):
+def decision_page(findings, file, words, program, title):
     """The page about a decision."""
-    title = f"The decision on {file}"
-    report = findings.ask(["stages" if findings.is_staged else "test"], findings.canonical)
+    title = title or f"The decision on {file}"
     parts = [f"<h1>{escape(title)}</h1>", answer(findings), how_to_read(findings), "<h2>The decision</h2>"]
     parts.append(staged_table(findings) if findings.is_staged else decision_table(findings))
     parts.append(pictures(findings))
@@ -440,29 +450,56 @@ def decision_page(findings, file, words, program):
     parts += ["<h2>The case as it was given</h2>", given_text(findings.given)]
     parts += ["<h2>The case in its one spelling</h2>", f"<pre>{escape(findings.canonical)}</pre>"]
     parts.append(f"<p>Its SHA-256 digest is <code>{digest(findings.canonical)}</code>.</p>")
-    parts += ["<h2>What the program printed</h2>", f"<pre>{escape(report)}</pre>"]
+    parts += ["<h2>What the program printed</h2>", f"<pre>{escape(findings.report)}</pre>"]
     parts += ["<h2>The program, and how to repeat and check the decision</h2>", program_list(program), *commands(findings, file, words)]
     return whole(title, parts)
 
 
-def document(case_text, run, form="text", alpha=None, file="trial.txt", labels=None, program=()):
+def document(case_text, run, form="text", alpha=None, file="trial.txt", labels=None, program=(), priority=None, title=None, report=None):
     """The status of the program, and the page about its decision or its refusal. See `page`."""
     given = case_text if isinstance(case_text, str) else case_text.decode("utf-8", "surrogateescape")
     words = words_of(form, alpha)
     try:
-        return 0, decision_page(Findings(given, run, form, alpha, labels), file, words, program)
+        findings = Findings(given, run, form, alpha, labels, priority)
     except Refused as refused:
-        return refused.args[1], refusal_page(refused, given, file, words, program)
+        if report is not None:
+            raise NotAReport(f"the case of the report is refused now: {refused.args[2]}") from None
+        return refused.args[1], refusal_page(refused, given, file, words, program, title)
+    if report not in (None, findings.report):
+        raise NotAReport("the program decides this case otherwise than the report that was given")
+    return 0, decision_page(findings, file, words, program, title)
 
 
 def page(case_text, run, **how):
     """Returns the page about the decision on a case, as HTML.
 
     `run(words, case)` runs a command of the program and returns its status and its text. `form` and `alpha` say how the case is
-    written, `file` what it is called, `labels` is a list with the user's name of each hypothesis, and `program` pairs of texts about
-    the program. `NotAReport`: a text is not the report of its command on this case. `ValueError`: the labels are not all different.
+    written, `file` what it is called, `labels` is a list with the user's name of each hypothesis, `program` pairs of texts about
+    the program, `priority` that of the decision, and `title` what stands above the page. With a `report`, the program has to print
+    it again. `NotAReport`: a text is not the report of its command on this case. `ValueError`: the labels are not all different.
     """
     return document(case_text, run, **how)[1]
+
+
+def write(text, path):
+    """Writes a page to a file, which has all of it or stays as it was. `OSError`: it cannot be written."""
+    place = os.path.realpath(path)
+    part = os.path.join(os.path.dirname(place), f".welungad-{secrets.token_hex(8)}")
+    try:
+        if os.path.exists(place) and not os.path.isfile(place):
+            raise OSError("it is not a file")
+        if os.path.exists(place) and not os.access(place, os.W_OK):
+            raise OSError("it is read-only")
+        with open(part, "xb") as file:
+            file.write(text.encode("utf-8", "replace"))
+        if os.path.exists(place):
+            shutil.copymode(place, part)
+        os.replace(part, place)
+    except OSError as error:
+        raise OSError(f"{path} can't be written: {error.strerror or error}") from None
+    finally:
+        with contextlib.suppress(OSError):
+            os.unlink(part)
 
 
 # ---- the script
@@ -486,13 +523,34 @@ def about(program):
     return found
 
 
-def main():
+def labels_in(content):
+    """Returns the labels in a file that has each of them with a byte 0 at its end."""
+    labels = content.decode("utf-8", "replace").split("\0")
+    if labels.pop():
+        raise ValueError("labels: the last one has no byte 0 at its end")
+    return labels
+
+
+def content_of(path):
+    """Returns the bytes of a file; nothing if there is no path."""
+    if path is None:
+        return None
+    with open(path, "rb") as file:
+        return file.read()
+
+
+def arguments():
     parser = argparse.ArgumentParser(description=__doc__, formatter_class=argparse.RawDescriptionHelpFormatter)
     parser.add_argument("case")
     parser.add_argument("--form", choices=["text", "csv", "json"], default="text")
-    parser.add_argument("--alpha")
-    parser.add_argument("--program")
-    words = parser.parse_args()
+    parser.add_argument("--priority", choices=["first", "last", "ratio"])
+    for option in ("--alpha", "--program", "--title", "--labels", "--report", "--out"):
+        parser.add_argument(option)
+    return parser.parse_args()
+
+
+def main():
+    words = arguments()
 
     def run(command, case):
         done = subprocess.run([program, *command], input=case.encode("utf-8", "surrogateescape"), stdout=subprocess.PIPE, check=False)
@@ -502,12 +560,16 @@ def main():
         program = words.program or found_program()
         if program is None:
             raise OSError("there is no program: name it by --program")
-        with open(words.case, "rb") as file:
-            given = file.read()
-        status, text = document(given, run, words.form, words.alpha, os.path.basename(words.case), program=about(program))
-    except (OSError, NotAReport) as error:
+        labels, report = content_of(words.labels), content_of(words.report)
+        status, text = document(content_of(words.case), run, words.form, words.alpha, os.path.basename(words.case), program=about(program),
+                                labels=None if labels is None else labels_in(labels), priority=words.priority, title=words.title,
+                                report=None if report is None else report.decode("latin-1"))
+        if words.out is not None:
+            write(text, words.out)
+    except (OSError, ValueError, NotAReport) as error:
         sys.exit(f"report.py: {error}")
-    sys.stdout.buffer.write(text.encode("utf-8"))
+    if words.out is None:
+        sys.stdout.buffer.write(text.encode("utf-8", "replace"))
     sys.exit(status)
 
 

@@ -15,6 +15,7 @@ import sys
 import tempfile
 import unittest
 from fractions import Fraction
+from unittest import mock
 
 TOOLS = os.path.dirname(os.path.abspath(__file__))
 TOP = os.path.dirname(TOOLS)
@@ -289,11 +290,58 @@ class Pages(Form):
         self.assertEqual([row[0] for row in rows_of(page, "decision")[1:]], ["low <dose> & \"more\" (H1)", "high\u00fc (H2)"])
         self.assertIn("<u>", [it.text() for it in page.all("code")])
         self.assertIn("welungad canon < '<b>.txt'", page.text())
-        for labels in (["a"], ["a", "a"], ["a", "b", "c"]):
+        for labels in (["a"], ["a", "a"], ["a", "b", "c"], []):
             with self.assertRaises(ValueError):
                 report.page(CASE, answering(), labels=labels)
         broken = report.page(b"# \xff\n" + CASE.encode(), lambda words, given: (0, CANON) if words[0] == "canon" else answering()(words, given))
         self.assertIn("# \ufffd\n", next(read(broken).all("pre")).text())
+
+    def test_long_labels(self):
+        """Whether a picture has the two ends of a long label, the tables and the description have all of it, and no surrogate is left."""
+        label = "a label " + 3000 * "<x>" + " that ends \udcff"
+        page = self.check_form(report.page(CASE, answering(), labels=[label, "B"]).encode("utf-8", "replace").decode())
+        self.assertEqual(rows_of(page, "decision")[1][0], label.replace("\udcff", "?") + " (H1)")
+        figure = next(page.all("figure"))
+        self.assertIn("a label <x><x><x><x><x><…<x> that ends ?", [it.text() for it in figure.all("text")])
+        self.assertIn(label[:-1] + "? has the weight 1/2", next(figure.all("desc")).text())
+        self.assertLess(max(int(it.attributes["width"]) for it in page.all("svg")), 700)
+
+    def test_priority(self):
+        """Whether the decision and its evidence are asked for by the priority, and the page has the lines that repeat them."""
+        asked = []
+        text = report.page(CASE, lambda words, case: asked.append(words) or answering()(words, case), priority="ratio")
+        self.assertIn(["test", "--priority", "ratio"], asked)
+        self.assertIn(["evidence", "--priority", "ratio"], asked)
+        page = self.check_form(text)
+        self.assertIn("welungad test --priority ratio < case.txt > report.txt\n", page.text() + "\n")
+        self.assertIn("welungad evidence --priority ratio < case.txt > evidence.txt\n", page.text())
+
+    def test_the_report_that_is_given(self):
+        """Whether there is no page if the program does not print the report that was given."""
+        self.assertEqual(report.page(CASE, answering(), report=TEST), report.page(CASE, answering()))
+        for given, run in [(TEST.replace("kept H2", "kept H3"), answering()), ("", answering()), (TEST, answering(canon=(4, "limit: bytes 5000000\n")))]:
+            with self.assertRaises(reports.NotAReport):
+                report.page(CASE, run, report=given)
+
+    def test_written(self):
+        """Whether a file has the whole page, or stays as it was and is alone in its folder."""
+        with tempfile.TemporaryDirectory() as room:
+            place, link = (os.path.join(room, name) for name in ("page.html", "link.html"))
+            os.symlink(place, link)
+            report.write("<p>ü\udcff", link)
+            self.assertEqual(test_tools.content(place), "<p>ü?")
+            os.chmod(place, 0o640)
+            with mock.patch("os.replace", side_effect=OSError(28, "No space left on device")), self.assertRaisesRegex(OSError, "page.html can't be written: No space left"):
+                report.write("another", place)
+            for path, cause in [(room, "it is not a file"), ("/dev/null", "it is not a file"), (os.path.join(room, "no", "page"), "No such file"),
+                                (os.path.join(place, "page"), "Not a directory"), (os.path.join(room, 300 * "x"), "File name too long")]:
+                with self.subTest(path), self.assertRaisesRegex(OSError, f"^{re.escape(path)} can't be written: {cause}"):
+                    report.write("another", path)
+            self.assertEqual((test_tools.content(place), sorted(os.listdir(room))), ("<p>ü?", ["link.html", "page.html"]))
+            with mock.patch("os.access", return_value=False), self.assertRaisesRegex(OSError, "it is read-only"):
+                report.write("another", place)
+            report.write("another", place)
+            self.assertEqual((test_tools.content(place), os.stat(place).st_mode & 0o777, os.path.islink(link)), ("another", 0o640, True))
 
     def test_numbers(self):
         """Whether a decimal is exact, or marked as not exact."""
@@ -317,6 +365,37 @@ class Pages(Form):
                 self.assertEqual((done.stdout == "", done.stderr.count("\n")), (wanted == 1, int(wanted == 1)), script)
                 if wanted == 3:
                     self.check_form(done.stdout)
+
+    def test_script_with_options(self):
+        """Whether the script takes labels, a title, a report and a file, and writes no file if one of them is wrong."""
+        answers = {command: given for (command, case), given in ANSWERS.items() if case == CANON} | {"start": START, "after": AFTER}
+        script = """#!/bin/sh
+cat > "$0.case"
+command=$1
+if [ $1 = test ]; then
+    grep -q 'p 1 1' "$0.case" && command=start
+    grep -q 'p 0 1' "$0.case" && command=after
+fi
+cat "$0.$command"
+"""
+        with tempfile.TemporaryDirectory() as room:
+            files = {"case": CASE, "program": script, "labels": "low <dose>\0ü\0", "few": "low\0", "open": "low\0high", "report": TEST, "other": START, "none": ""}
+            for name, content in [*files.items(), *(("program." + command, given) for command, given in answers.items())]:
+                with open(os.path.join(room, name), "w", encoding="utf-8") as file:
+                    file.write(content)
+            os.chmod(os.path.join(room, "program"), 0o755)
+            words = [sys.executable, os.path.join(TOOLS, "report.py"), "case", "--program=./program", "--out=page.html"]
+            for others, cause in [(["--labels=few"], "labels: 2 different ones are needed"), (["--labels=open"], "labels: the last one has no byte 0"),
+                                  (["--labels=none"], "labels: 2 different"), (["--labels=no"], "No such file"), (["--report=other"], "decides this case otherwise"),
+                                  (["--report=none"], "decides this case otherwise"), (["--out=no/page.html"], "no/page.html can't be written: No such file")]:
+                done = subprocess.run([*words, *others], cwd=room, capture_output=True, text=True, encoding="utf-8")
+                self.assertEqual((done.returncode, done.stdout, done.stderr.count("\n"), os.path.exists(os.path.join(room, "page.html"))), (1, "", 1, False), done.stderr)
+                self.assertIn(cause, done.stderr)
+            done = subprocess.run([*words, "--labels=labels", "--title=-- <T> ü", "--report=report"], cwd=room, capture_output=True, text=True, encoding="utf-8")
+            self.assertEqual((done.returncode, done.stdout, done.stderr), (0, "", ""))
+            page = self.check_form(test_tools.content(room, "page.html"))
+            self.assertEqual(next(page.all("h1")).text(), "-- <T> ü")
+            self.assertEqual([row[0] for row in rows_of(page, "decision")[1:]], ["low <dose> (H1)", "ü (H2)"])
 
 
 class Refusals(unittest.TestCase):

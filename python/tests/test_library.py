@@ -40,10 +40,10 @@ class Rooms(unittest.TestCase):
         return whole
 
     def put_package(self, path):
-        """Copies the package below the folder, without a library, and returns the folder that it lies in."""
+        """Copies the package below the folder, without a library and scripts, and returns the folder that it lies in."""
         target = os.path.join(self.room, path)
         shutil.copytree(os.path.dirname(welungad.__file__), os.path.join(target, "welungad"),
-                        ignore=shutil.ignore_patterns("__pycache__", "libwelungad.so", "stamp"))
+                        ignore=shutil.ignore_patterns("__pycache__", "libwelungad.so", "stamp", "_scripts"))
         return target
 
 

@@ -69,6 +69,8 @@ class Wheels(unittest.TestCase):
                      "Maintainer-email: Welungad maintainers <maintainers@users.noreply.welungad.example>"]:
             self.assertIn(line, metadata.split("\n"))
         wanted = {f"welungad/{it}" for it in os.listdir(os.path.join(SOURCES, "welungad")) if it.endswith(".py")} | {"welungad/py.typed"}
+        wanted |= {f"welungad/_scripts/tools/{it}.py" for it in ("report", "findings", "reports", "refusals", "draw", "make_evidence", "check_evidence")}
+        wanted.add("welungad/_scripts/docs/REFUSALS.md")
         self.assertEqual(wanted - set(names), set())
 
     def test_the_same_files_make_the_same_bytes(self):

@@ -25,7 +25,7 @@ from ._graph import Graph
 from ._library import (DONE, INTERFACE, LIMIT, MALFORMED, NO, NO_MEMORY, TOO_WIDE, UNREADABLE_WORDS, USAGE, Text, run)
 from ._numbers import Given, PrintedDoubleWarning
 from ._refusals import BadAnswer, Refused, explain
-from ._results import (Adjusted, Answer, Arrival, Bounds, Checked, Component, Decision, Evidence, Flow, Listed, Look, Number, Picture,
+from ._results import (Adjusted, Answer, Arrival, Bounds, Checked, Component, Decision, Evidence, Flow, Listed, Look, Number, Page, Picture,
                        Quotient, RefusedLook, Settled, Shown, Simes, Stages, Step, Tested, Trials, Weights)
 from ._study import Study
 
@@ -33,7 +33,7 @@ __version__ = "0.2.0"
 
 __all__ = [
     "Adjusted", "Answer", "Arrival", "BadAnswer", "BesideWarning", "Bounds", "Checked", "Component", "DONE", "Decision", "Evidence", "Flow", "Given",
-    "Graph", "INTERFACE", "LIMIT", "Level", "Listed", "Look", "MALFORMED", "NO", "NO_MEMORY", "Number", "Picture", "PrintedDoubleWarning", "Quotient", "Refused",
+    "Graph", "INTERFACE", "LIMIT", "Level", "Listed", "Look", "MALFORMED", "NO", "NO_MEMORY", "Number", "Page", "Picture", "PrintedDoubleWarning", "Quotient", "Refused",
     "RefusedLook", "Settled", "Shown", "Simes", "Stages", "Step", "Study", "TOO_WIDE", "Tested", "Text", "Trials", "UNREADABLE_WORDS",
     "USAGE", "Weights", "as_exact", "bounds", "canon", "check", "evidence", "explain", "run", "simes", "stages", "test", "weights",
 ]

@@ -8,12 +8,13 @@ from ._beside import BesideWarning, beside_fraction
 from ._hypotheses import (frame_labels, frame_rows, hold_labels, in_order, is_frame, names_for, order_of, rows_of, values_of)
 from ._library import Text, bytes_of, kind_of, run
 from ._numbers import Given, expression, numeral, value_of
+from ._page import page_of
 from ._picture import picture_of
 from ._places import place_of, sum_above, sum_text
 from ._refusals import BadAnswer, Refused
 from ._reports import (Canonical, Report, check_answer, read_bounds, read_canonical, read_decision, read_evidence, read_simes, read_stages,
                        read_weights, read_whole, take_answer)
-from ._results import (Answer, Bounds, Checked, Component, Decision, Evidence, Picture, Simes, Stages, Step, Trials, Weights,
+from ._results import (Answer, Bounds, Checked, Component, Decision, Evidence, Page, Picture, Simes, Stages, Step, Trials, Weights,
                        answered)
 from ._staged import Plan, looks_of, plan_of
 from ._trials import decide_rows, rows_of_p
@@ -22,6 +23,7 @@ from ._updates import steps_of
 ALPHA = "0.025"
 _ANY_ALPHA = "1/40"
 _PRIORITIES = ("first", "last", "ratio")
+_NOT_OF_THE_GRAPH = ("p", "stages", "spend", "table", "arrive")
 
 Found = TypeVar("Found", bound=Answer)
 
@@ -286,7 +288,7 @@ class Graph:
     def _answer(self, words: List[str], case: Case, read: Callable[[Report], Found]) -> Found:
         """Makes a call, and returns its result with the user's labels."""
         text = self._ask(words, case)
-        result = answered(read_whole(words[0], text, self._by_name, read), text, case.text)
+        result = answered(read_whole(words[0], text, self._by_name, read), words, text, case.text)
         if isinstance(result, (Decision, Stages)) and result.alpha != case.alpha:
             raise BadAnswer(f"what answered decided at the level {result.alpha}, and {case.alpha} was given")
         if isinstance(result, Decision) and {it.name: it.p for it in result.steps + result.kept} != case.p:
@@ -327,9 +329,10 @@ class Graph:
         `rows` is a list with a row of p-values for each trial, an array of numpy with a row a trial, or a frame of pandas with a
         column for each hypothesis. A row that is too wide, or has a double without a reading, has no decision, and the others have
         theirs. `TypeError`, `ValueError`: a row has a wrong type or a wrong number of values; the message has its number, from 1."""
-        case = numeral(alpha, "alpha")
-        self._canon(self._case(case))
-        return decide_rows(rows_of_p(rows, self._labels), self._labels, functools.partial(self._decided, case))
+        level = numeral(alpha, "alpha")
+        case = self._case(level)
+        self._canon(case)
+        return decide_rows(case.text, rows_of_p(rows, self._labels), self._labels, functools.partial(self._decided, level))
 
     def _decided(self, alpha: str, p: List[str]) -> Decision:
         return self._answer(["test"], self._case(alpha, p), read_decision)
@@ -357,8 +360,9 @@ class Graph:
         `proof` is what `evidence` returned, or the text of a document, in which the hypotheses have the program's names."""
         case = self._case_of_p(p, alpha)
         given = bytes_of(proof.text if isinstance(proof, Evidence) else proof, "proof")
-        text = self._ask(["check", "proof"], case, given)
-        return answered(check_answer(text, given, self._by_name), text, case.text)
+        words = ["check", "proof"]
+        text = self._ask(words, case, given)
+        return answered(check_answer(text, given, self._by_name), words, text, case.text)
 
     def steps(self, p: Any, alpha: Given = ALPHA, priority: str = "first") -> Tuple[Step, ...]:
         """Returns the graph before the first rejection and after each one, as the removal of the rejected hypothesis updates it.
@@ -404,3 +408,35 @@ class Graph:
             if tuple(decision.adjusted) != self._labels:
                 raise ValueError("the decision is of other hypotheses than the graph")
         return picture_of(self.components, self._labels, decision)
+
+    def report(self, decided: Any, file: Optional[str] = None, alpha: Optional[Given] = None, priority: Optional[str] = None,
+               title: Optional[str] = None) -> Page:
+        """Returns a page about a decision, for people who read it, and writes it to a file if one is named.
+
+        `decided` is what `test` or `stages` of this graph returned, or p-values, which are then tested at `alpha` and by `priority`.
+        The page has the decision on each hypothesis, the graph step by step, all intersections of few hypotheses, bounds, the case,
+        and how to repeat and check the decision; the hypotheses have your labels. What it says of the decision is what the proved
+        call prints. `title` stands above it. It is one HTML file, without scripts, that needs no other file.
+
+        `ValueError`: the decision is not of this graph. `OSError`: the file cannot be written, and stays as it was; or the scripts that
+        make the page are not found. `BadAnswer`: the proved call does not print the report of the decision again."""
+        if not isinstance(decided, (Decision, Stages)):
+            decided = self.test(decided, ALPHA if alpha is None else alpha, "first" if priority is None else priority)
+        elif alpha is not None or priority is not None:
+            raise TypeError("alpha and priority are given with p-values: a decision has its own")
+        if title is not None and not isinstance(title, str):
+            raise TypeError(f"title is a text, and not of type {kind_of(title)}")
+        self._hold_own(decided)
+        kind, count = "Staged" if isinstance(decided, Stages) else "Graphical", len(self)
+        own = f"{kind} test of {count} {'hypothesis' if count == 1 else 'hypotheses'}"
+        page = Page(page_of(decided.case, decided.report, decided.words, self._labels, own if title is None else title))
+        if file is not None:
+            page.save(file)
+        return page
+
+    def _hold_own(self, decided: Union[Decision, Stages]) -> None:
+        """Refuses a decision that is not of this graph."""
+        own = self._case(_ANY_ALPHA).text.split("\n")[1:]
+        given = [line for line in decided.case.split("\n")[1:] if line.split(" ")[0] not in _NOT_OF_THE_GRAPH]
+        if given != own:
+            raise ValueError("decided is not a decision of this graph")

@@ -1,11 +1,14 @@
-"""The call of the C library: where the library is, whether it is the one that was built, and `run`."""
+"""The calls of the C library: where the library is, whether it is the one that was built, and `run`, `readings` and `test_rows`."""
 import ctypes
 import functools
 import hashlib
 import os
 import sys
 import threading
-from typing import Callable, Iterable, List, Optional, Tuple, Union
+from array import array
+from typing import Any, Callable, Iterable, List, NamedTuple, Optional, Tuple, Union
+
+from ._refusals import BadAnswer
 
 INTERFACE = 1
 
@@ -106,28 +109,58 @@ def hold(path: str) -> None:
         raise OSError(f"{path} has no stamp beside it: run c/build.sh")
 
 
+class Library(NamedTuple):
+    """The library: where it is, its release, and its calls. An older one lacks `read` and `test_rows`."""
+
+    path: str
+    release: str
+    run: Callable[..., int]
+    read: Optional[Callable[..., int]]
+    test_rows: Optional[Callable[..., int]]
+
+
+_SLICE = (ctypes.c_void_p, ctypes.c_size_t)
+
+
+def _call(library: ctypes.CDLL, name: str, *arguments: Any, result: Any = ctypes.c_uint8) -> Optional[Callable[..., Any]]:
+    """Returns a call of the library, or nothing if the library lacks it."""
+    if not hasattr(library, name):
+        return None
+    call = getattr(library, name)
+    call.argtypes, call.restype = list(arguments), result
+    return call  # type: ignore[no-any-return]
+
+
 @functools.lru_cache(maxsize=None)
-def _library() -> Callable[..., int]:
-    """Loads the library and returns its call. `OSError`: there is none, it is not what was built, or has another interface."""
+def _library() -> Library:
+    """Loads the library and returns its calls. `OSError`: there is none, it is not what was built, or has another interface."""
     path = _found()
     if path != _NAME:
         hold(path)
     library = _load(path)
-    if not hasattr(library, "welungad_interface") or not hasattr(library, "welungad_run"):
+    number = _call(library, "welungad_interface", result=ctypes.c_uint32)
+    texts = (ctypes.c_char_p, ctypes.c_size_t) * 3
+    call = _call(library, "welungad_run", *texts, *_SLICE, ctypes.POINTER(ctypes.c_size_t))
+    if number is None or call is None:
         raise OSError(f"{path} is not Welungad's library: it has not its calls")
-    library.welungad_interface.argtypes = []
-    library.welungad_interface.restype = ctypes.c_uint32
-    interface = library.welungad_interface()
-    if interface != INTERFACE:
-        raise OSError(f"{path} has interface {interface}, and this package needs {INTERFACE}")
-    call = library.welungad_run
-    slices = [ctypes.c_char_p, ctypes.c_size_t] * 3
-    call.argtypes = [*slices, ctypes.c_void_p, ctypes.c_size_t, ctypes.POINTER(ctypes.c_size_t)]
-    call.restype = ctypes.c_uint8
-    return call
+    if number() != INTERFACE:
+        raise OSError(f"{path} has interface {number()}, and this package needs {INTERFACE}")
+    release = _call(library, "welungad_version", result=ctypes.c_char_p)
+    return Library(path, release().decode("ascii", "replace") if release else "", call, _call(library, "welungad_read", *_SLICE * 2),
+                   _call(library, "welungad_test_rows", ctypes.c_char_p, ctypes.c_size_t, *_SLICE * 3))
 
 
-# ---- the call
+def about() -> List[Tuple[str, str]]:
+    """Returns what a page says of the library: its release, and its SHA-256 if its place is known."""
+    library = _library()
+    said = [("Release of the C library", library.release)] if library.release else []
+    if library.path != _NAME:
+        with open(library.path, "rb") as file:
+            said.append(("SHA-256 digest of the C library", hashlib.sha256(file.read()).hexdigest()))
+    return said
+
+
+# ---- the calls
 
 _rooms = threading.local()
 
@@ -173,7 +206,7 @@ def run(words: Iterable[Text], case: Text = b"", proof: Text = b"") -> Tuple[int
     `OSError`: the library is not found, is not the one that was built, or has another interface.
     """
     joined, case, proof = _joined(words), bytes_of(case, "case"), bytes_of(proof, "proof")
-    call = _library()
+    call = _library().run
     needed = ctypes.c_size_t()
     # The room is taken out of its place during the call, since a signal's handler may call in the same thread.
     room = _rooms.__dict__.pop("room", None) or ctypes.create_string_buffer(_FIRST_ROOM)
@@ -188,3 +221,46 @@ def run(words: Iterable[Text], case: Text = b"", proof: Text = b"") -> Tuple[int
     text = ctypes.string_at(out, needed.value)
     _rooms.room = room
     return status, text
+
+
+@functools.lru_cache(maxsize=None)
+def _reader() -> Optional[Callable[..., int]]:
+    """Returns the call that reads doubles; nothing if there is no library, or an older one."""
+    try:
+        return _library().read
+    except OSError:
+        return None
+
+
+def readings(doubles: Iterable[float]) -> Optional[List[Tuple[int, int]]]:
+    """Returns the numerator and the denominator of the fraction that the library reads each double as, and nothing at all if there
+    is no library, or an older one. A double without a reading has the denominator 0."""
+    call = _reader()
+    if call is None:
+        return None
+    given = array("d", doubles)
+    words = array("Q", bytes(32 * len(given)))
+    status = call(given.buffer_info()[0], len(given), words.buffer_info()[0], len(words))
+    if status:
+        raise BadAnswer(f"the call that reads doubles ended with status {status}")
+    low, high = words[0::2], words[1::2]
+    parts = [one + (more << 64) for one, more in zip(low, high)]
+    return list(zip(parts[0::2], parts[1::2]))
+
+
+def has_rows() -> bool:
+    """Whether the library decides many rows of doubles in one call; an older one does not."""
+    return _library().test_rows is not None
+
+
+def test_rows(case: Text, doubles: Iterable[float], rows: int) -> Tuple[int, bytes, bytes]:
+    """Decides a case with each of several rows of p-values, which are doubles, row by row. It may have p-values of its own.
+
+    Returns the status of the call; a byte for each p-value, which is 1 if its hypothesis is rejected in its row; and the status of
+    each row. If the status of the call is not 0, no row is decided."""
+    call, text, given = _library().test_rows, bytes_of(case, "case"), array("d", doubles)
+    if call is None:
+        raise BadAnswer("the library is an older one, which decides no rows")
+    marks, statuses = ctypes.create_string_buffer(max(1, len(given))), ctypes.create_string_buffer(max(1, rows))
+    status = call(text, len(text), given.buffer_info()[0], len(given), marks, len(given), statuses, rows)
+    return status, marks.raw[: len(given)], statuses.raw[:rows]

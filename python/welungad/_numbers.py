@@ -8,6 +8,8 @@ interval are the rationals that round to it. It is read as
    with the even numerator;
 3. else the double rounded up to a multiple of 10^-30.
 
+The library reads doubles by a proved function. Without it, or with an older one, the rule is that of this module.
+
 So 1/3 is 1/3, 0.025 is 1/40, and 0.1 + 0.2, which is not the double 0.3, is 0.30000000000000004. A double below 0 or above 1, an
 infinite one and NaN have no reading.
 """
@@ -19,7 +21,8 @@ from fractions import Fraction
 from numbers import Rational
 from typing import Any, Iterator, Optional, Tuple, Union
 
-from ._library import kind_of
+from ._library import kind_of, readings
+from ._refusals import BadAnswer
 
 Given = Union[Fraction, Decimal, str, int, float]
 
@@ -94,9 +97,22 @@ def _short_decimal(double: float) -> Optional[Fraction]:
 
 
 def read_double(double: float) -> Fraction:
-    """Returns the fraction that a double is read as. `ValueError`: it is not from 0 to 1."""
+    """Returns the fraction that a double is read as: by the library if it is there, else by the same rule here.
+
+    `ValueError`: it is not from 0 to 1."""
     if not 0 <= double <= 1:
         raise ValueError(f"{double!r} is not from 0 to 1")
+    found = readings([double])
+    if found is None:
+        return own_reading(double)
+    [(n, d)] = found
+    if d == 0:
+        raise BadAnswer(f"what answered has no reading of {double!r}")
+    return Fraction(n, d)
+
+
+def own_reading(double: float) -> Fraction:
+    """Returns the fraction that a double from 0 to 1 is read as, without the library."""
     if double == 0:
         return Fraction(0)
     found = _small_fraction(double) or _short_decimal(double)

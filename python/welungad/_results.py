@@ -1,25 +1,31 @@
 """Results: what the commands print, as values. Numbers are exact; the names are the user's labels, or those of a text."""
 from dataclasses import dataclass, field
 from fractions import Fraction
-from typing import Dict, FrozenSet, Tuple, TypeVar, Union
+from os import PathLike
+from typing import Dict, FrozenSet, Sequence, Tuple, TypeVar, Union
+
+from ._page import write_page
 
 
 @dataclass(frozen=True)
 class Answer:
-    """What every result has: `report` is the text that the proved call printed, byte for byte, and `case` the text of the case
-    that it decided, in which the hypotheses have the program's names. `case` is empty if the caller gave a text himself."""
+    """What every result has: `report` is the text that the proved call printed, byte for byte, `words` are those of the command, and
+    `case` is the text of the case that it decided, in which the hypotheses have the program's names. `case` is empty if the caller
+    gave a text himself."""
 
     report: str = field(default="", init=False, repr=False, compare=False)
     case: str = field(default="", init=False, repr=False, compare=False)
+    words: Tuple[str, ...] = field(default=(), init=False, repr=False, compare=False)
 
 
 Result = TypeVar("Result", bound=Answer)
 
 
-def answered(result: Result, report: str, case: str = "") -> Result:
-    """Returns the result, once it has the texts that it was read from."""
+def answered(result: Result, words: Sequence[str], report: str, case: str = "") -> Result:
+    """Returns the result, once it has the words of its call and the texts that it was read from."""
     object.__setattr__(result, "report", report)
     object.__setattr__(result, "case", case)
+    object.__setattr__(result, "words", tuple(words))
     return result
 
 
@@ -254,3 +260,14 @@ class Picture:
 
     def _repr_svg_(self) -> str:
         return self.svg
+
+
+@dataclass(frozen=True)
+class Page:
+    """A page about a decision, for people who read it: one HTML file, which has no scripts and needs no other file."""
+
+    html: str = field(repr=False)
+
+    def save(self, path: Union[str, "PathLike[str]"]) -> None:
+        """Writes the page to a file, which has all of it or stays as it was. `OSError`: it cannot be written."""
+        write_page(self.html, path)

@@ -1,14 +1,17 @@
-"""Many rows of p-values, a row a trial. Each row is one proved call; the rows are read and named here alone, so that one call for
-all rows can take their place."""
-from typing import Any, Callable, Dict, List, Sequence, Tuple
+"""Many rows of p-values, a row a trial. Rows of doubles are decided in blocks, with one proved call each, between which an interrupt
+is seen. Any other row is one call of `test`, and so is each row if the library is an older one."""
+from typing import Any, Callable, Dict, List, Optional, Sequence, Tuple
 
 from ._hypotheses import frame_labels, frame_rows, in_order, is_frame, order_of, rows_of
-from ._library import LIMIT, MALFORMED, TOO_WIDE
+from ._library import DONE, LIMIT, MALFORMED, NO_MEMORY, TOO_WIDE, has_rows, test_rows
 from ._numbers import numeral
-from ._refusals import Refused
+from ._refusals import BadAnswer, Refused
 from ._results import Decision, RowDecision, Trials
 
 _OF_A_ROW = (MALFORMED, LIMIT, TOO_WIDE)
+_ROWS_OF_A_BLOCK = 512
+
+Row = Sequence[Any]
 
 
 def rows_of_p(given: Any, labels: Sequence[str]) -> List[List[Any]]:
@@ -40,15 +43,47 @@ def _decide_row(number: int, row: Sequence[Any], labels: Sequence[str], decide: 
     return 0, tuple(label in rejected for label in labels), ""
 
 
-def decide_rows(rows: Sequence[Sequence[Any]], labels: Sequence[str], decide: Callable[[List[str]], Decision]) -> Trials:
-    """Returns the decision on each row, which `decide` makes of its p-values as numerals."""
+def _is_of_doubles(row: Row) -> bool:
+    return all(isinstance(value, float) or (type(value) is int and 0 <= value <= 1) for value in row)
+
+
+def _decide_doubles(case: str, rows: Sequence[Row]) -> Optional[List[Tuple[int, RowDecision]]]:
+    """Returns the status of each row of doubles, and its decision if it has one; nothing if the case is too wide for any row."""
+    status, marks, statuses = test_rows(case, (value for row in rows for value in row), len(rows))
+    if status == TOO_WIDE:
+        return None
+    if status == NO_MEMORY:
+        raise Refused(status, "no memory")
+    if status != DONE or max(marks, default=0) > 1:
+        raise BadAnswer(f"the call that decides rows ended with status {status}")
+    wide = len(rows[0])
+    decisions = [tuple(mark == 1 for mark in marks[wide * at : wide * (at + 1)]) for at in range(len(rows))]
+    return [(found, decision if found == DONE else None) for found, decision in zip(statuses, decisions)]
+
+
+def _by_one_call(case: str, rows: Sequence[Row], begin: int) -> Dict[int, Tuple[int, RowDecision]]:
+    """Returns what one call decides of a block of rows, by the number of the row; other rows are left out."""
+    numbers = [number for number, row in enumerate(rows, begin) if _is_of_doubles(row)] if has_rows() else []
+    found = _decide_doubles(case, [rows[number - begin] for number in numbers]) if numbers else None
+    return dict(zip(numbers, found or []))
+
+
+def decide_rows(case: str, rows: Sequence[Row], labels: Sequence[str], decide: Callable[[List[str]], Decision]) -> Trials:
+    """Returns the decision on each row with a case without p-values. `decide` makes that of one row from its p-values as numerals."""
     rejected: List[RowDecision] = []
     statuses: List[int] = []
     refused: Dict[int, str] = {}
-    for number, row in enumerate(rows, 1):
-        status, decision, cause = _decide_row(number, row, labels, decide)
-        statuses.append(status)
-        rejected.append(decision)
-        if status:
-            refused[number] = cause
+    for begin in range(0, len(rows), _ROWS_OF_A_BLOCK):
+        block = rows[begin : begin + _ROWS_OF_A_BLOCK]
+        found = _by_one_call(case, block, begin + 1)
+        for number, row in enumerate(block, begin + 1):
+            status, decision = found.get(number, (None, None))
+            if status != DONE:
+                own, decision, cause = _decide_row(number, row, labels, decide)
+                if status not in (None, own):
+                    raise BadAnswer(f"what answered has the status {status} for row {number}, and {own} for its p-values as texts")
+                refused.update({number: cause} if own != DONE else {})
+                status = own
+            statuses.append(status)
+            rejected.append(decision)
     return Trials(tuple(labels), tuple(rejected), tuple(statuses), refused)

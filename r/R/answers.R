@@ -70,38 +70,32 @@ rejected_line <- function(names, rejected) paste(c("rejected", names[names %in% 
 
 # ---- test
 
+# The lines are written again from the parts that are read, and have to be the same.
 read_test <- function(lines, names) {
   n <- length(names)
-  if (length(lines) != 2L * n + 3L || !startsWith(lines[1], "alpha ")) return(NULL)
-  tested <- lines[1L + seq_len(n)]
+  if (length(lines) != 2L * n + 3L) return(NULL)
+  at <- seq_len(n)
+  tested <- lines[at + 1L]
   count <- sum(startsWith(tested, "step "))
-  # the places of the words before the first word of each line "step N NAME p P weight W" and "kept NAME p P weight W"
-  steps <- 7L * (seq_len(count) - 1L)
-  kept <- 7L * count + 6L * (seq_len(n - count) - 1L)
+  steps <- seq_len(count)
+  # the words of "step N NAME p P weight W" without N, and of "kept NAME p P weight W"
   words <- unlist(strsplit(tested, " ", fixed = TRUE))
-  fixed <- words[c(steps + 1L, steps + 2L, kept + 1L, steps + 4L, kept + 3L, steps + 6L, kept + 5L)]
-  wanted <- c(rep("step", count), seq_len(count), rep("kept", n - count), rep("p", n), rep("weight", n))
-  order <- match(words[steps + 3L], names)
-  at <- match(names, words[c(steps + 3L, kept + 2L)])
-  if (length(words) != count + 6L * n || !identical(fixed, wanted) || anyNA(at)) return(NULL)
-  rejected <- logical(n)
-  rejected[order] <- TRUE
-  if (lines[n + 2L] != paste(c("rejected", names[rejected]), collapse = " ")) return(NULL)
-  adjusted <- lines[n + 2L + seq_len(n)]
-  begins <- paste0("adjusted ", names, " ")
-  if (!all(startsWith(adjusted, begins))) return(NULL)
-  values <- substr(adjusted, nchar(begins) + 1L, 1000L)
-  reached <- values != "1 not reached"
-  values[!reached] <- "1"
-  list(
-    alpha = substr(lines[1], 7L, 1000L),
-    order = order,
-    rejected = rejected,
-    p = words[c(steps + 5L, kept + 4L)][at],
-    weight = words[c(steps + 7L, kept + 6L)][at],
-    adjusted = values,
-    reached = reached
-  )
+  if (length(words) != 6L * n + count) return(NULL)
+  if (count) words <- words[-(7L * steps - 5L)]
+  dim(words) <- c(6L, n)
+  listed <- words[2, ]
+  adjusted <- substr(lines[n + 2L + at], nchar(names) + 11L, 1000L)
+  rejected <- match(names, listed) <= count
+  alpha <- substr(lines[1], 7L, 1000L)
+  begins <- c(if (count) paste("step", steps), rep("kept", n - count))
+  written <- c(paste("alpha", alpha), paste(begins, listed, "p", words[4, ], "weight", words[6, ]), rejected_line(names, listed[steps]),
+    paste("adjusted", names, adjusted), "end")
+  if (anyNA(rejected) || !identical(lines, written)) return(NULL)
+  reached <- adjusted != "1 not reached"
+  adjusted[!reached] <- "1"
+  at <- match(names, listed)
+  list(alpha = alpha, order = match(listed[steps], names), rejected = rejected, p = words[4, at], weight = words[6, at], adjusted = adjusted,
+    reached = reached)
 }
 
 # ---- all sets

@@ -18,6 +18,9 @@ welungad_found <- function() nzchar(welungad_way())
 
 has_library <- function() .Call(C_welungad_interface) > 0L
 
+# Whether the library reads doubles and decides many rows; one of an earlier release does not.
+has_numbers <- function() .Call(C_welungad_has_numbers)
+
 # The program that the environment variable WELUNGAD names, else that of the path, else "".
 program_path <- function() {
   named <- Sys.getenv("WELUNGAD")

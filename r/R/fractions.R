@@ -21,34 +21,22 @@ as_double <- function(x) {
 
 # The doubles of numerals in texts, NA for other texts.
 double_of <- function(text) {
-  has <- grepl("/", text, fixed = TRUE)
-  if (all(has)) return(double_of_quotient(text))
-  out <- numeric(length(text))
-  out[has] <- double_of_quotient(text[has])
-  out[!has] <- double_of_decimal(text[!has])
-  out
-}
-
-# Parts of at most 15 digits are doubles, and need no gmp.
-double_of_quotient <- function(text) {
-  if (length(text) == 0) return(numeric())
-  parts <- unlist(strsplit(text, "/", fixed = TRUE))
-  if (length(parts) == 2L * length(text) && max(nchar(parts)) <= 15L) {
-    at <- 2L * seq_along(text)
-    values <- as.numeric(parts)
-    return(values[at - 1L] / values[at])
+  out <- .Call(C_welungad_short_doubles, text)
+  if (anyNA(out)) {
+    other <- which(is.na(out))
+    out[other] <- double_of_any(text[other])
   }
-  short <- nchar(text) <= 15L & is_numeral(text)
-  out <- numeric(length(text))
-  if (any(short)) out[short] <- double_of_quotient(text[short])
-  out[!short] <- as_double(fraction(text[!short]))
   out
 }
 
-double_of_decimal <- function(text) {
+# The same of fractions with long parts, and of decimals.
+double_of_any <- function(text) {
   out <- rep(NA_real_, length(text))
   numeral <- is_numeral(text)
-  out[numeral] <- as.numeric(text[numeral])
+  quotient <- numeral & grepl("/", text, fixed = TRUE)
+  if (any(quotient)) out[quotient] <- as_double(fraction(text[quotient]))
+  decimal <- numeral & !quotient
+  out[decimal] <- as.numeric(text[decimal])
   out
 }
 

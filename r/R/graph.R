@@ -48,7 +48,7 @@ as_text <- function(read) {
 # The texts of numbers as they are handed in: each element is one word. Only what was given as a text can be another one.
 number_texts <- function(x, what) {
   texts <- as_text(x$read)
-  if (!any(x$rule == "text")) return(texts)
+  if (!"text" %in% x$rule) return(texts)
   wrong <- which(!nzchar(texts) | grepl("[[:space:][:cntrl:]]", texts))
   if (length(wrong)) stop_at(what, place_text(wrong[1], x$names), " is ", quoted(texts[wrong[1]]), ", which is not one number")
   texts
@@ -164,42 +164,26 @@ level_text_of <- function(level) {
   number_texts(level, "alpha")
 }
 
-# P-values in the order of the graph as they are handed in. None is missing. A double whose denominator would pass 10^30 is
-# rounded up to a multiple of 10^-30.
+# P-values in the order of the graph as they are handed in. None is missing. One that was rounded up is reported.
 read_p <- function(p, graph) {
   if (anyNA(p$read) && length(p$read) == length(graph$names)) {
     missing <- which(is.na(p$read))
     where <- sprintf("p: the p-value of %s is missing", graph$labels[missing[1]])
     refuse(3L, paste("malformed: case: p missing", graph$names[missing[1]]), where = where)
   }
-  if (any(p$rule == "shortest decimal")) round_small(p, graph$labels) else p
-}
-
-# Only numbers below 10^-12 are tested: a shortest decimal has at most 17 digits.
-round_small <- function(p, labels) {
-  decimals <- which(p$rule == "shortest decimal")
-  for (i in decimals[abs(as.numeric(p$read[decimals])) < 1e-12]) {
-    value <- fraction(p$read[i])
-    limit <- ten_to(30)
-    if (value > 0 && gmp::denominator(value) > limit) {
-      p$read[i] <- as.character(round_up(value, limit))
-      p$rule[i] <- "rounded up to a multiple of 10^-30"
-      report_rounded(labels[i], p$given[i], p$read[i])
-    }
-  }
+  report_rounded(p, graph$labels)
   p
 }
 
-# The least multiple of 1/parts that is not below the value.
-round_up <- function(value, parts) {
-  n <- gmp::numerator(value) * parts
-  d <- gmp::denominator(value)
-  gmp::as.bigq((n + d - 1) %/% d, parts)
+# Reports the p-values that were rounded up.
+report_rounded <- function(p, labels) {
+  if (rounded_up %in% p$rule) for (i in which(p$rule == rounded_up)) {
+    say_rounded(sprintf("The p-value %s of %s was rounded up to %s, a multiple of 10^-30.", p$given[i], labels[i], p$read[i]))
+  }
 }
 
-report_rounded <- function(label, given, read) {
-  text <- sprintf("The p-value %s of %s was rounded up to %s, a multiple of 10^-30.\n", given, label, read)
-  message(structure(class = c("welungad_rounded", "message", "condition"), list(message = text, call = NULL)))
+say_rounded <- function(text) {
+  message(structure(class = c("welungad_rounded", "message", "condition"), list(message = paste0(text, "\n"), call = NULL)))
 }
 
 check_graph <- function(graph) {

@@ -1,17 +1,18 @@
 # Many trials with one graph.
 
-# How many rows are decided between two looks at the clock.
-rows_of_block <- 256L
+# How many rows are decided between two looks at the clock, in which R also sees an interrupt.
+rows_of_block <- 512L
 
 graph_test_many <- function(graph, P, alpha = 0.025) {
   check_graph(graph)
   level <- level_of(alpha)
   P <- rows_of_p(P, graph)
   out <- matrix(NA, nrow(P), ncol(P), dimnames = list(rownames(P), graph$labels))
+  decide <- if (is.double(P) && welungad_way() == "library" && has_numbers()) decided_doubles else decided_texts
   progress <- progress_over(nrow(P))
   on.exit(progress$close())
   for (rows in blocks_over(nrow(P))) {
-    block <- decided_rows(graph, level, P[rows, , drop = FALSE])
+    block <- decide(graph, level, P[rows, , drop = FALSE])
     done <- block$statuses == 0L
     out[rows[done], ] <- block$rejected[done, ]
     progress$at(max(rows))
@@ -20,41 +21,83 @@ graph_test_many <- function(graph, P, alpha = 0.025) {
   out
 }
 
-# The p-values as texts, a row a trial, with the columns in the order of the hypotheses. None is missing.
+# The p-values, a row a trial, with the columns in the order of the hypotheses: doubles, or else texts. None is missing.
 rows_of_p <- function(P, graph) {
-  if (is.data.frame(P)) {
-    read <- exact_frame(P, "P")
-  } else {
-    if (length(dim(P)) != 2) stop_at("P", "a matrix is needed, with a row for each trial and a column for each hypothesis")
-    read <- exact_of(P, "P")
+  if (!is.data.frame(P) && length(dim(P)) != 2) {
+    stop_at("P", "a matrix is needed, with a row for each trial and a column for each hypothesis")
   }
+  P <- if (is_of_doubles(P)) matrix_of_doubles(P) else matrix_of_texts(P)
   n <- length(graph$names)
-  if (read$dim[2] != n) stop_at("P", whole_text(read$dim[2]), " columns given for ", whole_text(n), " hypotheses")
-  columns <- if (is.null(read$dimnames[[2]])) seq_len(n) else places_among(read$dimnames[[2]], hypothesis_keys(graph), "P: columns")
-  texts <- matrix(checked_p(read), read$dim[1], n, dimnames = list(read$dimnames[[1]], NULL))
-  texts[, columns, drop = FALSE]
+  if (ncol(P) != n) stop_at("P", whole_text(ncol(P)), " columns given for ", whole_text(n), " hypotheses")
+  given <- colnames(P)
+  columns <- if (is.null(given)) seq_len(n) else places_among(given, hypothesis_keys(graph), "P: columns")
+  check_p(P)
+  if (is.double(P)) report_many_rounded(P)
+  P[, columns, drop = FALSE]
 }
 
-# The texts of p-values; the first that is missing or not from 0 to 1 is an error with its row. Small ones are rounded up.
-checked_p <- function(read) {
-  values <- double_of(read$read)
-  rows <- read$dim[1]
-  wrong <- which(is.na(values) | values < 0 | values > 1)
-  if (length(wrong)) {
-    at <- wrong[order((wrong - 1) %% rows)][1]
-    given <- if (is.na(read$read[at])) "NA" else read$given[at]
-    stop_at("P", "row ", whole_text((at - 1) %% rows + 1), ", column ", whole_text((at - 1) %/% rows + 1), " is ", given,
-      ", which is not a p-value")
+is_of_doubles <- function(P) if (is.data.frame(P)) length(P) > 0 && all(vapply(P, is_plain, NA)) else is_plain(P)
+
+# Whether numbers are doubles or integers, and nothing else.
+is_plain <- function(x) (is.double(x) || is.integer(x)) && !is.object(x)
+
+matrix_of_doubles <- function(P) {
+  if (is.data.frame(P)) {
+    rows <- attr(P, "row.names")
+    values <- vapply(P, as.double, numeric(nrow(P)))
+    P <- matrix(values, nrow(P), length(P), dimnames = list(if (is.character(rows)) rows, names(P)))
   }
-  number_texts(round_small(read, paste("row", rep(whole_text(seq_len(rows)), read$dim[2]))), "P")
+  storage.mode(P) <- "double"
+  P
 }
 
-# Decides a block of rows. Returns a logical matrix of the rejected, and a status for each row: 0, or 5 if it is too wide.
-decided_rows <- function(graph, level, texts) {
+matrix_of_texts <- function(P) {
+  read <- if (is.data.frame(P)) exact_frame(P, "P") else exact_of(P, "P")
+  report_rounded(read, paste("row", rep(whole_text(seq_len(read$dim[1])), read$dim[2])))
+  matrix(read$read, read$dim[1], read$dim[2], dimnames = read$dimnames)
+}
+
+# Stops at the first p-value that is missing or not from 0 to 1, with its row and column.
+check_p <- function(P) {
+  values <- if (is.double(P)) P else double_of(P)
+  wrong <- which(is.na(values) | values < 0 | values > 1)
+  if (length(wrong) == 0) return(invisible())
+  at <- wrong[order((wrong - 1) %% nrow(P))][1]
+  given <- if (is.double(P) && !is.na(P[at])) decimal_text(P[at], 15) else as.character(P[at])
+  stop_at("P", "row ", whole_text((at - 1) %% nrow(P) + 1), ", column ", whole_text((at - 1) %/% nrow(P) + 1), " is ",
+    if (is.na(given)) "NA" else given, ", which is not a p-value")
+}
+
+# Reports how many p-values are rounded up. Only doubles below 10^-12 can be, since a decimal has at most 17 digits.
+report_many_rounded <- function(P) {
+  small <- which(P > 0 & P < 1e-12)
+  at <- small[read_doubles(P[small], "P")$rule == rounded_up]
+  rows <- sort(unique((at - 1) %% nrow(P) + 1))
+  if (length(at)) {
+    say_rounded(paste0("P: ", whole_text(length(at)), if (length(at) == 1) " p-value was" else " p-values were",
+      " rounded up to a multiple of 10^-30: row ", listed(whole_text(rows))))
+  }
+}
+
+# Decides a block of rows of doubles by one call. Returns a logical matrix of the rejected, and a status for each row: 0, or 5 if it is
+# too wide.
+decided_doubles <- function(graph, level, P) {
+  text <- case_text(graph, level)
+  found <- .Call(C_welungad_rows, charToRaw(text), P)
+  if (found$status == 0L && all(found$statuses %in% c(0L, 5L))) return(found)
+  if (found$status == 5L) return(list(rejected = matrix(FALSE, nrow(P), ncol(P)), statuses = rep(5L, nrow(P))))
+  if (found$status == 8L) stop("the C library is out of memory", call. = FALSE)
+  ask("canon", handed(text, graph))
+  stop("the C library gives no whole answer to many trials: it ends with ", found$status, call. = FALSE)
+}
+
+# Decides a block of rows one by one, as decided_doubles.
+decided_texts <- function(graph, level, P) {
+  if (is.double(P)) P <- matrix(read_doubles(P, "P")$read, nrow(P))
   parts <- graph_text(graph)
-  p <- do.call(paste, lapply(seq_len(ncol(texts)), function(j) texts[, j]))
+  p <- do.call(paste, lapply(seq_len(ncol(P)), function(j) P[, j]))
   cases <- paste0("alpha ", level, "\n", parts$head, "p ", p, "\n", parts$body)
-  out <- list(rejected = matrix(FALSE, nrow(texts), ncol(texts)), statuses = integer(nrow(texts)))
+  out <- list(rejected = matrix(FALSE, nrow(P), ncol(P)), statuses = integer(nrow(P)))
   for (i in seq_along(cases)) {
     case <- handed(cases[i], graph)
     answer <- welungad_run("test", case$text)

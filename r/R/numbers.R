@@ -1,8 +1,8 @@
 # Numbers: how a number of R becomes an exact fraction.
 #
-# The rule. A text is taken as it is. A double x is read as n/d with the least d up to 10,000 for which R computes
-# n / d == x. If there is no such d, it is read as the shortest decimal that R reads back as x. So 1/3 typed in R is 1/3,
-# 0.025 is 1/40, and 0.3333 is 3333/10000.
+# The rule. A text is taken as it is. A double from 0 to 1 is read as the fraction with the least denominator up to 10,000 that rounds
+# to it. If there is none, it is read as the decimal with the fewest places, up to 30, that rounds to it; else it is rounded up to a
+# multiple of 10^-30. So 1/3 typed in R is 1/3, 0.025 is 1/40, and 0.3333 is 3333/10000.
 
 # How many units in the last place a double may be away from a fraction to be called beside it.
 beside_units <- 4L
@@ -49,28 +49,17 @@ small_fractions <- function(x, room = 0) .Call(C_welungad_fractions, x, room)
 # The distance of a double to the next one.
 last_place <- function(x) 2^(floor(log2(abs(x))) - 52)
 
-# Doubles by the rule. `given` is what R shows.
-read_doubles <- function(x, what, names = NULL) {
-  if (length(x) > 64) {
-    values <- unique(x)
-    if (length(values) < length(x)) return(lapply(read_doubles(values, what), `[`, match(x, values)))
-  }
-  found <- small_fractions(x)
-  given <- sprintf("%.15g", x)
-  read <- quotient_of(found$n, found$d)
-  rule <- rep("least denominator", length(x))
-  if (anyNA(found$d)) {
-    other <- which(is.na(found$d))
-    refuse_valueless(x, what, names)
-    missing <- other[is.na(x[other])]
-    other <- setdiff(other, missing)
-    given[missing] <- "NA"
-    read[missing] <- NA
-    rule[missing] <- "missing"
-    read[other] <- given[other] <- shortest_decimals(x[other])
-    rule[other] <- "shortest decimal"
-  }
-  list(given = given, read = read, rule = rule)
+# By which part of the rule a double was read.
+rounded_up <- "rounded up to a multiple of 10^-30"
+double_rules <- c("least denominator", "shortest decimal", rounded_up, "missing")
+
+# Doubles by the rule: by the library if it is there, else by the package's own code, which is also asked for by `own`. `given` is what R
+# shows.
+read_doubles <- function(x, what, names = NULL, own = FALSE) {
+  read <- .Call(C_welungad_readings, x, own)
+  if (4L %in% read$rule) refuse_valueless(x, what, names)
+  read$rule <- double_rules[read$rule]
+  read
 }
 
 refuse_valueless <- function(x, what, names) {
@@ -78,37 +67,6 @@ refuse_valueless <- function(x, what, names) {
   if (length(wrong)) {
     refuse(3L, "malformed: number", where = sprintf("%s: %s is %s", what, place_text(wrong[1], names), x[wrong[1]]))
   }
-}
-
-# The shortest decimals that R reads back as the doubles.
-shortest_decimals <- function(x) {
-  texts <- sprintf("%.15g", x)
-  for (digits in 16:17) {
-    texts <- or_next_decimals(texts, x, digits - 1L)
-    longer <- which(as.numeric(texts) != x)
-    if (length(longer)) texts[longer] <- decimal_text(x[longer], digits)
-  }
-  # below the least normal double fewer digits can be enough
-  small <- which(abs(x) < .Machine$double.xmin & x != 0)
-  texts[small] <- vapply(x[small], shortest_of_small, "")
-  texts
-}
-
-# Below a power of two the doubles are nearer to it than above, so the nearest decimal can be read back as another double, and the
-# next one with as many digits as the power of two.
-or_next_decimals <- function(texts, x, digits) {
-  for (i in which(as.numeric(texts) != x & abs(x) == 2^round(log2(abs(x))))) {
-    parts <- strsplit(sprintf("%.*e", digits - 1L, abs(x[i])), "e", fixed = TRUE)[[1]]
-    whole <- as.character(gmp::as.bigz(sub(".", "", parts[1], fixed = TRUE)) + 1L)
-    above <- paste0(if (x[i] < 0) "-", whole, "e", as.integer(parts[2]) - digits + 1L)
-    if (as.numeric(above) == x[i]) texts[i] <- above
-  }
-  texts
-}
-
-shortest_of_small <- function(x) {
-  texts <- sprintf("%.*e", 0:16, x)
-  texts[match(TRUE, as.numeric(texts) == x)]
 }
 
 # The whole numbers of the package bit64, which keeps their 64 bits in a double. NA is the least of them.

@@ -94,7 +94,7 @@ read_looks <- function(graph, looks) {
   read <- column_of(looks, match("p", names(looks)), "looks")
   missing <- which(is.na(read$read))
   if (length(missing)) stop_at("looks", "the p-value of row ", whole_text(missing[1]), " is missing")
-  if (any(read$rule == "shortest decimal")) read <- round_small(read, graph$labels[at])
+  report_rounded(read, graph$labels[at])
   table_of(name = graph$names[at], label = graph$labels[at], stage = stage, read = number_texts(read, "looks"))
 }
 

@@ -10,17 +10,15 @@ graph_test <- function(graph, p, alpha = 0.025, priority = c("first", "last", "r
 new_test <- function(report, priority, case) {
   graph <- case$graph
   labels <- graph$labels
-  named <- function(x) {
-    names(x) <- labels
-    x
-  }
+  adjusted <- double_of(report$adjusted)
+  names(report$rejected) <- names(report$reached) <- names(adjusted) <- labels
   result <- list(
     graph = graph,
     alpha = report$alpha,
     priority = priority,
-    rejected = named(report$rejected),
-    adjusted = named(double_of(report$adjusted)),
-    reached = named(report$reached),
+    rejected = report$rejected,
+    adjusted = adjusted,
+    reached = report$reached,
     order = labels[report$order],
     exact = table_of(hypothesis = labels, p = report$p, weight = report$weight, adjusted = report$adjusted),
     read = case$p,

@@ -1,6 +1,6 @@
 /* R's way to the C library: .Call(C_welungad_call, words, case, proof), with words a character vector and case and proof raw
- * vectors. No function of R runs during a call of the library, so no jump of R passes through it. Without the library, which
- * `configure` looks for, the package has no such way. */
+ * vectors, and .Call(C_welungad_rows, case, P) with the p-values of many trials. No function of R runs during a call of the library,
+ * so no jump of R passes through it. Without the library, which `configure` looks for, the package has no such way. */
 #include <R.h>
 #include <R_ext/Rdynload.h>
 #include <Rinternals.h>
@@ -10,6 +10,11 @@
 
 #ifdef WELUNGAD_LIBRARY
 #include <welungad.h>
+
+/* These calls are null in a library of an earlier release. */
+__attribute__((weak)) uint8_t welungad_read(const uint64_t *bits, size_t bits_len, uint64_t *out, size_t out_len);
+__attribute__((weak)) uint8_t welungad_test_rows(const uint8_t *kase, size_t kase_len, const uint64_t *p, size_t p_len,
+                                                 uint8_t *rejected, size_t rejected_len, uint8_t *statuses, size_t statuses_len);
 
 /* The room on the stack for an answer. A longer answer is asked for again, with room for it. */
 #define FIRST_ROOM 65536
@@ -69,18 +74,79 @@ static SEXP interface(void) {
   uint32_t number = welungad_interface();
   return ScalarInteger(number == WELUNGAD_INTERFACE ? (int)number : 0);
 }
+
+/* Whether the library has the calls on numbers. */
+static int has_calls(void) { return welungad_read != NULL && welungad_test_rows != NULL; }
+
+int library_readings(const double *doubles, size_t len, uint64_t *words) {
+  if (!has_calls()) return 0;
+  uint64_t *bits = (uint64_t *)R_alloc(len + 1, sizeof(uint64_t));
+  memcpy(bits, doubles, len * sizeof(double));
+  if (welungad_read(bits, len, words, WORDS * len) != WELUNGAD_DONE) error("the C library does not read doubles");
+  return 1;
+}
+
+static SEXP has_numbers(void) { return ScalarLogical(has_calls()); }
+
+/* The marks of rows as a logical matrix with a row for each of them. */
+static SEXP marks_of(const uint8_t *marks, int rows, int columns) {
+  SEXP result = PROTECT(allocMatrix(LGLSXP, rows, columns));
+  for (int i = 0; i < rows; i++) {
+    for (int j = 0; j < columns; j++) LOGICAL(result)[i + (R_xlen_t)rows * j] = marks[(size_t)i * columns + j] == 1;
+  }
+  UNPROTECT(1);
+  return result;
+}
+
+/* Returns a list of the `status` of the call, the matrix `rejected`, and the `statuses` of the rows, as welungad.h says. If the status
+ * of the call is not 0, the others mean nothing. */
+static SEXP welungad_rows(SEXP kase, SEXP p) {
+  if (TYPEOF(kase) != RAWSXP || TYPEOF(p) != REALSXP || !isMatrix(p)) error("a case and a matrix of doubles are needed");
+  if (!has_calls()) error("the C library is of an earlier release, which decides no rows");
+  const void *top = vmaxget();
+  int rows = nrows(p), columns = ncols(p);
+  size_t case_len, count = (size_t)rows * columns;
+  uint64_t *doubles = (uint64_t *)R_alloc(count + 1, sizeof(uint64_t));
+  for (int i = 0; i < rows; i++) {
+    for (int j = 0; j < columns; j++) memcpy(doubles + (size_t)i * columns + j, REAL(p) + i + (R_xlen_t)rows * j, sizeof(double));
+  }
+  uint8_t *marks = (uint8_t *)R_alloc(count + 1, 1), *statuses = (uint8_t *)R_alloc((size_t)rows + 1, 1);
+  memset(marks, 0, count);
+  memset(statuses, 0, (size_t)rows);
+  const uint8_t *c = bytes(kase, &case_len);
+  uint8_t status = welungad_test_rows(c, case_len, doubles, count, marks, count, statuses, (size_t)rows);
+  const char *names[] = {"status", "rejected", "statuses", ""};
+  SEXP result = PROTECT(mkNamed(VECSXP, names));
+  SET_VECTOR_ELT(result, 0, ScalarInteger(status));
+  SET_VECTOR_ELT(result, 1, marks_of(marks, rows, columns));
+  SET_VECTOR_ELT(result, 2, allocVector(INTSXP, rows));
+  for (int i = 0; i < rows; i++) INTEGER(VECTOR_ELT(result, 2))[i] = statuses[i];
+  vmaxset(top);
+  UNPROTECT(1);
+  return result;
+}
 #else
 static SEXP welungad_call(SEXP words, SEXP kase, SEXP proof) {
   error("the package was installed without the C library");
 }
 
 static SEXP interface(void) { return ScalarInteger(0); }
+
+int library_readings(const double *doubles, size_t len, uint64_t *words) { return 0; }
+
+static SEXP has_numbers(void) { return ScalarLogical(0); }
+
+static SEXP welungad_rows(SEXP kase, SEXP p) { return welungad_call(kase, p, p); }
 #endif
 
 static const R_CallMethodDef calls[] = {
   {"welungad_call", (DL_FUNC)&welungad_call, 3},
   {"welungad_interface", (DL_FUNC)&interface, 0},
+  {"welungad_has_numbers", (DL_FUNC)&has_numbers, 0},
+  {"welungad_rows", (DL_FUNC)&welungad_rows, 2},
   {"welungad_fractions", (DL_FUNC)&welungad_fractions, 2},
+  {"welungad_readings", (DL_FUNC)&welungad_readings, 2},
+  {"welungad_short_doubles", (DL_FUNC)&welungad_short_doubles, 1},
   {NULL, NULL, 0},
 };
 

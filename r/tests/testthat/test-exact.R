@@ -41,7 +41,3 @@ test_that("names end with their last letter", {
   })
 })
 
-test_that("doubles that are less than normal are read by the shortest decimal", {
-  expect_equal(as_exact(5e-324)$read, "5e-324")
-  expect_identical(as.numeric(as_exact(c(5e-324, 1e-310))$read), c(5e-324, 1e-310))
-})

@@ -7,7 +7,7 @@ test_that("doubles are read at the edges of the rule", {
   expect_equal(read(c(9999 / 10000, 1 / 9973)), c("9999/10000", "1/9973"))
   expect_equal(read(0.1 + 0.2), "0.30000000000000004")
   expect_equal(read(1 - 1 / 3 - 1 / 3), "0.3333333333333334")
-  expect_equal(read(c(1e-5, 1e-300)), c("1e-05", "1e-300"))
+  expect_equal(read(c(1e-5, 1e-300)), c("1e-05", "1e-30"))
   expect_equal(read(-0.25), "-1/4")
   expect_equal(read(c(2L, NA)), c("2", NA))
   expect_equal(read(NA), NA_character_)
@@ -22,7 +22,7 @@ test_that("each fraction with a small denominator is read as itself", {
 
 test_that("another double is read as the shortest decimal that is read back", {
   set.seed(1)
-  x <- c(runif(200), runif(50) * 1e-12, 1 / 10007, pi / 4, 0.05 / 7 * 1e-3)
+  x <- c(runif(200), runif(50) * 1e-9, 1 / 10007, pi / 4, 0.05 / 7 * 1e-3)
   texts <- as_exact(x)
   own <- texts$rule == "shortest decimal"
   expect_true(sum(own) > 240)
@@ -35,8 +35,64 @@ test_that("another double is read as the shortest decimal that is read back", {
 })
 
 test_that("a power of two is read as the shortest decimal, also if the nearest one is read back as another double", {
-  expect_equal(read(c(2^-24, 2^-44)), c("5960464477539063e-23", "5684341886080802e-29"))
-  expect_equal(read(c(-2^-24, 2^-30)), c("-5960464477539063e-23", "9.313225746154785e-10"))
+  expect_equal(read(c(2^-24, 2^-44)), c("5.960464477539063e-08", "5.684341886080802e-14"))
+  expect_equal(read(c(-2^-24, 2^-30)), c("-5.960464477539063e-08", "9.313225746154785e-10"))
+})
+
+test_that("a double that is too small for 30 places is rounded up", {
+  small <- as_exact(c(1.5e-30, 1e-30, 0.9e-30, 1.024e-28, 5e-324, -1e-300))
+  expect_equal(small$read, c("2e-30", "1e-30", "1e-30", "1.03e-28", "1e-30", "-1e-30"))
+  expect_equal(small$given, c("1.5e-30", "1e-30", "9e-31", "1.024e-28", "5e-324", "-1e-300"))
+  expect_equal(unique(small$rule[-2]), "rounded up to a multiple of 10^-30")
+  expect_equal(small$rule[2], "shortest decimal")
+})
+
+test_that("doubles above 1, which no case has, are read for the refusal", {
+  expect_equal(read(c(2, 2.5, -7 / 3, 2^60)), c("2", "5/2", "-7/3", "1152921504606846976"))
+  expect_equal(read(c(3.0000000000000004, -1.5000000000000002)), c("3.0000000000000004", "-1.5000000000000002"))
+})
+
+# The doubles with these bits, as hexadecimal digits from the sign on.
+of_bits <- function(digits) {
+  bytes <- vapply(digits, function(it) as.raw(strtoi(substring(it, seq(1, 15, 2), seq(2, 16, 2)), 16L)), raw(8))
+  readBin(as.vector(bytes), "double", length(digits), endian = "big")
+}
+
+test_that("doubles are read as the table of Python has them", {
+  table <- file.path(dirname(Sys.getenv("WELUNGAD_EXAMPLES", "/nowhere/examples")), "python", "tests", "readings.txt")
+  skip_if_not(file.exists(table), "the table of readings is not found")
+  rows <- read.table(table, colClasses = "character", col.names = c("bits", "printed", "reading", "part"))
+  rows <- rows[rows$part != "refused", ]
+  expect_gt(nrow(rows), 130)
+  for (own in c(TRUE, FALSE)) {
+    found <- welungad:::read_doubles(of_bits(rows$bits), "x", own = own)
+    expect_true(all(welungad:::fraction(found$read) == welungad:::fraction(rows$reading)))
+    rule <- c(small = "least denominator", decimal = "shortest decimal", up = "rounded up to a multiple of 10^-30")
+    expect_equal(found$rule, unname(rule[rows$part]))
+  }
+})
+
+# Doubles from 0 to 1 of each kind: random bits, decimals, quotients, powers of two and what is beside them, less than normal ones.
+doubles_of_each_kind <- function(count) {
+  bytes <- matrix(as.raw(sample(0:255, 8 * count, TRUE)), 8)
+  bytes[1, ] <- as.raw(sample(0:63, count, TRUE))
+  less <- bytes
+  less[1, ] <- as.raw(0)
+  less[2, ] <- as.raw(sample(0:15, count, TRUE))
+  bits <- function(it) readBin(as.vector(it), "double", count, endian = "big")
+  powers <- 2^-(0:1074)
+  beside <- c(powers, powers * (1 + 2^-52), powers * (1 - 2^-53))
+  x <- c(bits(bytes), bits(less[, seq_len(count %/% 4)]), round(runif(count), sample(17, count, TRUE)),
+    sample(3000, count, TRUE) / 3000 / sample(c(1, 3, 7, 60, 9999, 10000, 10007), count, TRUE), 10^-runif(count, 0, 32), beside)
+  x[!is.na(x) & x >= 0 & x <= 1]
+}
+
+test_that("the package's own reading is that of the library", {
+  skip_if_not(welungad:::has_numbers(), "the library with the calls on numbers is not found")
+  set.seed(11)
+  x <- doubles_of_each_kind(25000)
+  expect_gt(length(x), 1e5)
+  expect_identical(welungad:::read_doubles(x, "x"), welungad:::read_doubles(x, "x", own = TRUE))
 })
 
 test_that("numbers without a value are refused", {
@@ -78,11 +134,12 @@ test_that("numerals have the values that FORMATS says", {
 test_that("small p-values are rounded up to multiples of 10^-30, with a message", {
   one <- list(names = "H1", labels = "H1")
   p <- function(x) welungad:::read_p(as_exact(x), one)$read
-  expect_message(expect_equal(p(1e-300), paste0("1/1", strrep("0", 30))), class = "welungad_rounded")
-  expect_message(expect_equal(p(2e-31), paste0("1/1", strrep("0", 30))), "rounded up")
-  expect_message(expect_equal(p(1.1e-30), paste0("1/5", strrep("0", 29))), "1.1e-30 of H1")
+  expect_message(expect_equal(p(1e-300), "1e-30"), class = "welungad_rounded")
+  expect_message(expect_equal(p(2e-31), "1e-30"), "rounded up")
+  expect_message(expect_equal(p(1.1e-30), "2e-30"), "The p-value 1.1e-30 of H1 was rounded up to 2e-30, a multiple of 10^-30", fixed = TRUE)
+  expect_message(expect_equal(p(1.024e-28), "1.03e-28"), "1.024e-28 of H1")
   expect_no_message(expect_equal(p(1e-30), "1e-30"))
-  expect_no_message(expect_equal(p(1.024e-28), "1.024e-28"))
+  expect_no_message(expect_equal(p(1.23e-28), "1.23e-28"))
   expect_no_message(expect_equal(p("1e-300"), "1e-300"))
   expect_no_message(expect_equal(p(0), "0"))
 })

@@ -1,0 +1,186 @@
+"""Tests of the page about a decision: what it has, with the user's labels, how it is written, and where its scripts are."""
+import html.parser
+import os
+import subprocess
+import sys
+import tempfile
+import threading
+import unittest
+from fractions import Fraction
+
+import places
+import test_library
+import welungad
+from welungad import _page
+
+HOSTILE = ("</th></table><script>alert(1)</script>", "\"q\" & 'r' &amp;", "Dosis \u00fc \u2265 \U0001f4a7", "a long label " + 5000 * "w<", "two\nlines", "\udcff")
+
+
+class Reader(html.parser.HTMLParser):
+    """Reads a page, each of whose elements has to be closed where it was opened, and keeps the text of the cells and of some others."""
+
+    def __init__(self, page):
+        super().__init__(convert_charrefs=True)
+        self.open, self.texts = [], []
+        self.feed(page)
+        self.close()
+        assert not self.open
+
+    def handle_starttag(self, name, attributes):
+        if name not in ("meta", "br"):
+            self.open.append(name)
+            self.texts.append([name, ""])
+        assert name not in ("script", "link", "img", "iframe") and not any(key.startswith("on") for key, _ in attributes)
+
+    def handle_endtag(self, name):
+        assert self.open.pop() == name
+
+    def handle_data(self, data):
+        if self.open and self.texts[-1][0] == self.open[-1]:
+            self.texts[-1][1] += data
+
+    def all(self, name):
+        return [text for found, text in self.texts if found == name]
+
+
+def pair(names=("low dose", "high dose")):
+    return welungad.Graph(["1/2", "1/2"], [[0, 1], [1, 0]], names)
+
+
+class Pages(unittest.TestCase):
+    def test_a_decision(self):
+        graph = pair()
+        decision = graph.test({"high dose": 0.02, "low dose": 0.01})
+        page = graph.report(decision)
+        read = Reader(page.html)
+        self.assertEqual(read.all("h1"), ["Graphical test of 2 hypotheses"])
+        self.assertEqual([it for it in read.all("pre") if it == decision.report], [decision.report])
+        self.assertEqual(page.html.count("<figure>"), 3)
+        self.assertIn("<strong>low dose <small>(low_dose)</small> and high dose <small>(high_dose)</small></strong>", page.html)
+        self.assertIn(decision.case, read.all("pre") + [it + "\n" for it in read.all("pre")])
+        self.assertIn("SHA-256 digest of the C library", page.html)
+        self.assertEqual(graph.report([0.01, 0.02]), page)
+        self.assertNotIn("Dose", graph.report(decision, title="<b> & more").html)
+        self.assertEqual(Reader(graph.report(decision, title="<b> & more").html).all("h1"), ["<b> & more"])
+        self.assertEqual(Reader(welungad.Graph([1], [[0]]).report([1]).html).all("h1"), ["Graphical test of 1 hypothesis"])
+
+    def test_alpha_and_priority(self):
+        graph = pair(("A", "B"))
+        page = graph.report([0.012, 0.001], alpha="0.05", priority="ratio").html
+        self.assertIn("\nstep 1 B p 1/1000 weight 1/2\n", page)
+        self.assertIn("alpha 1/20\n", page)
+        self.assertIn("welungad test --priority ratio &lt; case.txt", page)
+        self.assertIn("\nstep 1 B ", graph.report(graph.test([0.012, 0.001], priority="last")).html)
+
+    def test_stages(self):
+        graph = pair(("PFS <1>", "OS"))
+        stages = graph.stages({"PFS <1>": [0.005, 0.02], "OS": [0.005, 0.02]}, [("PFS <1>", 1, 0.002), ("OS", 1, 0.5)])
+        read = Reader(graph.report(stages).html)
+        self.assertEqual(read.all("h1"), ["Staged test of 2 hypotheses"])
+        self.assertIn(stages.report, read.all("pre"))
+
+    def test_entangled(self):
+        graph = welungad.Graph.entangled([welungad.Graph([1, 0], {}), welungad.Graph([0, 1], {"H2": {"H1": 1}})], ["1/4", 0.75])
+        self.assertIn("Several graphs are combined", graph.report([0.02, 0.01]).html)
+
+    def test_hostile_labels(self):
+        graph = welungad.Graph([Fraction(1, 6)] * 6, {}, names=HOSTILE)
+        with tempfile.TemporaryDirectory() as room:
+            path = os.path.join(room, "page \u00fc.html")
+            page = graph.report([0.001] * 6, path, title=HOSTILE[0] + HOSTILE[5])
+            with open(path, encoding="utf-8") as file:
+                self.assertEqual(file.read(), page.html.replace("\udcff", "?"))
+        read = Reader(page.html)
+        self.assertEqual(read.all("h1"), [HOSTILE[0] + HOSTILE[5]])
+        for label in HOSTILE:
+            self.assertTrue(any(text.startswith(label) for text in read.all("th")), label[:40])
+        self.assertNotIn("<script", page.html)
+
+    def test_what_is_not_of_this_graph(self):
+        graph = pair()
+        for other in [pair(("A", "B")), welungad.Graph(["1/2", "1/2"], {}, ["low dose", "high dose"])]:
+            with self.assertRaisesRegex(ValueError, "^decided is not a decision of this graph$"):
+                graph.report(other.test([0.01, 0.02]))
+        with self.assertRaisesRegex(ValueError, "^decided is not a decision of this graph$"):
+            graph.report(welungad.test(places.example("holm.txt")))
+        decision = graph.test([0.01, 0.02])
+        for wrong in [dict(alpha="0.025"), dict(priority="first")]:
+            with self.assertRaisesRegex(TypeError, "^alpha and priority are given with p-values"):
+                graph.report(decision, **wrong)
+        with self.assertRaisesRegex(TypeError, "^title is a text, and not of type int$"):
+            graph.report(decision, title=1)
+        with self.assertRaises(welungad.Refused):
+            graph.report([0.01, 2])
+        object.__setattr__(decision, "report", decision.report.replace("1/50", "1/49"))
+        with self.assertRaisesRegex(welungad.BadAnswer, "^there is no page: the program decides this case otherwise"):
+            graph.report(decision)
+
+    def test_files(self):
+        graph = pair()
+        with tempfile.TemporaryDirectory() as room:
+            path = os.path.join(room, "page.html")
+            page = graph.report([0.01, 0.02], path)
+            with open(path, encoding="utf-8") as file:
+                self.assertEqual(file.read(), page.html)
+            for wrong, cause in [(os.path.join(room, "no", "page.html"), "No such file or directory"), (room, "it is not a file"), ("/dev/null", "it is not a file"),
+                                 (os.path.join(path, "x"), "Not a directory")]:
+                with self.assertRaisesRegex(OSError, f"can't be written: {cause}$"):
+                    graph.report([0.01, 0.02], wrong)
+            with self.assertRaises(welungad.Refused):
+                graph.report([0.01, 2], path)
+            self.assertEqual(os.listdir(room), ["page.html"])
+            with open(path, encoding="utf-8") as file:
+                self.assertEqual(file.read(), page.html)
+
+    def test_threads(self):
+        graph, pages = pair(), []
+        threads = [threading.Thread(target=lambda: pages.append(graph.report([0.01, 0.02]).html)) for _ in range(4)]
+        for thread in threads:
+            thread.start()
+        for thread in threads:
+            thread.join()
+        self.assertEqual(len(set(pages)), 1)
+        self.assertEqual(len(pages), 4)
+
+
+class Scripts(test_library.Rooms):
+    """Whether the scripts are found where they belong, and nobody else sees them."""
+
+    PLACES = "from welungad import _page; print(*_page.tool_places(), sep='\\n')"
+
+    def test_places(self):
+        self.assertEqual(test_library.say(self.put_package("a/share/welungad/python"), self.PLACES).split("\n")[:2],
+                         [f"{self.room}/a/share/welungad/python/welungad/_scripts/tools", f"{self.room}/a/share/welungad/tools"])
+        folder = self.put_package("top/python")
+        self.put("top/c/welungad.h")
+        os.makedirs(os.path.join(self.room, "top", "crates"))
+        self.assertEqual(test_library.say(folder, self.PLACES).split("\n")[1], f"{self.room}/top/tools")
+
+    def test_none(self):
+        folder = self.put_package("x")
+        said = test_library.say(folder, "from welungad import _page; _page.tools()")
+        if "OSError" not in said:
+            self.skipTest("the package or Python's own prefix has the scripts")
+        self.assertIn(f"OSError: report.py, which makes the page, is not found. The places tried: {folder}/welungad/_scripts/tools, ", said)
+
+    def test_one_that_is_missing(self):
+        folder = self.put_package("x")
+        self.put("x/welungad/_scripts/tools/report.py", b"import draw\n")
+        self.assertIn("No such file or directory: '" + f"{folder}/welungad/_scripts/tools/draw.py'",
+                      test_library.say(folder, "from welungad import _page; _page.write_page('', '/nowhere/x')"))
+
+    def test_other_modules_of_these_names(self):
+        code = ("import sys, types\nsys.modules['draw'] = types.ModuleType('draw')\nimport welungad\n"
+                "graph = welungad.Graph([1], [[0]])\nprint('<svg' in graph.report([0.5]).html, {'report', 'findings', 'reports'} & set(sys.modules))")
+        done = subprocess.run([sys.executable, "-c", code], env={**os.environ, "PYTHONPATH": os.path.dirname(os.path.dirname(welungad.__file__))},
+                              cwd="/", stdout=subprocess.PIPE, check=True)
+        self.assertEqual(done.stdout, b"True set()\n")
+
+    @unittest.skipUnless(os.environ.get("WELUNGAD_INSTALLED"), "no environment that it is installed in")
+    def test_the_installed_ones(self):
+        self.assertEqual(_page.tools(), os.path.join(os.path.dirname(os.path.abspath(welungad.__file__)), "_scripts", "tools"))
+        self.assertTrue(os.path.isfile(os.path.join(_page.tools(), "..", "docs", "REFUSALS.md")))
+
+
+if __name__ == "__main__":
+    unittest.main()

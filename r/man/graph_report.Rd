@@ -1,0 +1,47 @@
+\name{graph_report}
+\alias{graph_report}
+\title{A page about a decision}
+\description{
+Writes a decision as one page of HTML, for people who read it rather than compute it.
+}
+\usage{
+graph_report(x, file, p = NULL, alpha = 0.025, title = NULL)
+}
+\arguments{
+  \item{x}{a result of \code{\link{graph_test}} or \code{\link{graph_stages}}; or a graph, which is then tested with \code{p} at \code{alpha}.}
+  \item{file}{where the page is written. The file has the whole page, or stays as it was.}
+  \item{p}{the p-values if \code{x} is a graph, as for \code{\link{graph_test}}.}
+  \item{alpha}{the level if \code{x} is a graph.}
+  \item{title}{what stands above the page; by default the first line of the printed result.}
+}
+\details{
+The page has the decision on each hypothesis with its levels and adjusted p-value, the graph before the first rejection and after
+each one, all intersections of at most 6 hypotheses, bounds on the number of false hypotheses, the case, and how to repeat and to
+check the decision. The hypotheses have their labels; where the program has another name for one, it is in parentheses. The
+page has no scripts and needs no other file.
+
+What the page says of the decision is what the program prints. Its reports are read strictly, and the report of the decision has to
+be the one that \code{x} has: else there is no page.
+
+The page is made by the script \code{report.py} of Welungad's installation or checkout, so this call needs more than the others: the
+program, as \code{\link{welungad_run}} says, also if the package has the C library; the script, in the folder
+\code{share/welungad/tools} of the installation in whose \code{bin} the program is, or in the folder \code{tools} of the checkout; and
+\code{python3}, 3.8 or later, which the environment variable \code{WELUNGAD_PYTHON} names, or which is on the path. If one of them is
+missing, the call stops with a line that names it.
+}
+\value{
+The path of the file, invisibly.
+}
+\seealso{
+\code{\link{graph_evidence}} for what a reviewer can check, \code{\link{plot.welungad_graph}} for pictures.
+}
+\examples{
+\dontshow{if (welungad_found()) withAutoprint(\{ # examples need the program or its library}
+graph <- graph_create(c("low dose" = 1 / 2, "high dose" = 1 / 2), rbind(0:1, 1:0))
+x <- graph_test(graph, p = c("low dose" = 0.01, "high dose" = 0.02))
+page <- tempfile(fileext = ".html")
+try(graph_report(x, page, title = "Two doses"))
+file.exists(page)
+unlink(page)
+\dontshow{\})}
+}
