@@ -7,7 +7,6 @@ ghost use Rattle.entries.specs.Entries.{entry_of};
 
 /// `entry_of` returns an entry exactly if the text is an expression of that entry, and a fault exactly if the text has that
 /// fault.
-#[tactic(auto, using(crate::proofs::Entries::read_both_ways, crate::proofs::Entries::failed_both_ways))]
 pub fn entries_are_read()
     ensures value { (text : List ℕ) (e : List Ratio) → (entry_of text ≡ Ok e) ↔ IsEntryText text e }
     ensures fault { (text : List ℕ) (f : ExprFault) → (entry_of text ≡ Err f) ↔ IsExprFault text f }
