@@ -1,87 +1,162 @@
 -- Lines of commands, read one by one.
-use Rattle.std.proofs.Common.{◌≡◌, ◌⊎◌, ℕ, inl, inr, List, [], ◌∷◌, ◌++◌, length, Result, Ok, Err, refl, sym, ap, ap₂, subst, ◌∙◌, append_assoc}
-use Rattle.std.specs.List.{AllByRecursion}
+use Rattle.std.proofs.Common.{◌≡◌, ◌⊎◌, ℕ, inl, inr, List, [], ◌∷◌, ◌++◌, length, Option, Some, None, Result, Ok, Err, refl, sym, ap, ap₂, subst, ◌∙◌}
+use Rattle.std.specs.List.{AllByRecursion, AllZip}
+use Rattle.std.specs.Option.{option_map}
 use Rattle.std.specs.Prelude.{IfOk, codes}
-use Rattle.std.proofs.lemmas.List.{append-nil}
-use Rattle.field_core.specs.Answers.{and_then, IsUnless, told_as}
-use Rattle.field_core.proofs.Results.{came_from, same_value, same_fault}
-use Rattle.graph_io.specs.declared.keeper.Look.{Look}
-use Rattle.text_lines.specs.Languages.{FaultAt, reading, IsDocument}
-use Rattle.text_lines.specs.Lines.{rows_of, texts_in, end_of}
-use Rattle.text_lines.proofs.LanguageLaws.{read_as}
-use Rattle.text_lines.proofs.Runs.{run, run_line, document_runs, run_documents}
-use Rattle.edge_text.specs.declared.fault.LineKind.{LineKind}
-use Rattle.edge_text.specs.declared.fault.LineKind.TheVariants.{WordCount}
+use Rattle.field_core.specs.Answers.{mapped, IsUnless, told_as}
+use Rattle.field_core.proofs.Results.{made_of, same_value, same_fault}
+use Rattle.text_lines.specs.Faults.{FaultAt}
+use Rattle.text_lines.specs.Forms.{Say, Seen, AreMany, Is, reading, texts_seen}
+use Rattle.text_lines.specs.Kinds.{either_of, expected, behind, more_lines}
+use Rattle.text_lines.specs.Lines.{Row, rows_of, texts_in, end_of}
+use Rattle.text_lines.specs.Words.{words_of, words_behind}
+use Rattle.text_lines.proofs.FormFaults.{faults_end, none_is_fault}
+use Rattle.text_lines.proofs.FormLines.{lines_step, lines_taken, lines_can}
+use Rattle.text_lines.proofs.FormReads.{reading_as}
+use Rattle.text_lines.proofs.Keywords.{keyword_found}
+use Rattle.edge_text.specs.Document.{kinds}
 use Rattle.edge_text.specs.Grammar.{Words, IsArrival}
 use Rattle.edge_text.specs.WordReading.{arrival}
+use Rattle.edge_text.specs.declared.fault.LineKind.{LineKind}
+use Rattle.edge_text.specs.declared.fault.LineKind.TheVariants.{WordCount}
+use Rattle.edge_text.proofs.FormSpells.{lines_of, spells_lines, spelt_document}
 use Rattle.edge_text.proofs.Leaves.{arrival_said, arrival_is}
-use Rattle.edge_text.proofs.LinesTaken.{here, past, said, taken, reads, none}
+use Rattle.edge_text.proofs.LinesSaid.{line_said}
 use Rattle.study_answers.specs.declared.command.StudyCommand.{StudyCommand}
 use Rattle.study_answers.specs.declared.command.StudyCommand.TheVariants.{Take, Show}
 use Rattle.study_answers.specs.declared.fault.CommandsFault.{CommandsFault}
 use Rattle.study_answers.specs.declared.fault.CommandsFault.TheVariants.{Line, NoMemory}
 use Rattle.study_answers.specs.CommandFaults.{IsFirstFault, on_line}
-use Rattle.study_answers.specs.CommandLanguage.{look_of, look, show, command, commands, commands_of}
 use Rattle.study_answers.specs.CommandLines.{arrival_of, IsCommandLine, AreCommandLines, AreCommands, IsBelow}
-use Rattle.study_answers.specs.CommandStatements.{CommandsAreOfLines, FaultsAreBadLines}
+use Rattle.study_answers.specs.CommandStatements.{CommandsAreOfLines, IsFirstBadLine, FaultsAreBadLines, FaultsAreFirst}
+use Rattle.study_answers.specs.Commands.{taking, look, show, command, commands, commands_of}
 use Rattle.study_answers.proofs.LookPlaces.{place_below}
+
+some_result : {A : Type 0} (x y : Result A LineKind) → ◌≡◌ {A = Option (Result A LineKind)} (Some x) (Some y) → x ≡ y
+some_result x y e = cc
 
 module _ (names : Words) where
   -- ---- lines
 
-  abbrev IsLook : Words → Look → Type 0
-  IsLook words l = IsArrival names words (arrival_of l)
+  -- words of a look
+  abbrev IsLook : Words → StudyCommand → Type 0
+  IsLook words (Take l) = IsArrival names words (arrival_of l)
+  IsLook words Show = ⊥
 
-  look_said : (words : Words) (l : Look) → IsLook words l → look names words ≡ Ok l
-  look_said words l h = ap (λ r. and_then r (λ a. Ok (look_of a))) (arrival_said names words (arrival_of l) h)
+  look_said : (words : Words) (c : StudyCommand) → IsLook words c → look names words ≡ Ok c
+  look_said words (Take l) h = ap (mapped taking) (arrival_said names words (arrival_of l) h)
+  look_said words Show h = absurd h
 
-  look_is : (words : Words) (l : Look) → look names words ≡ Ok l → IsLook words l
-  look_is words l e =
-      let a = came_from (arrival names words) (λ a. Ok (look_of a)) l e in
-      subst (IsLook words) (same_value (look_of a.0) l a.2) (arrival_is names words a.0 a.1)
+  look_is : (line : List ℕ) (words : Words) (c : StudyCommand) → words_of line ≡ codes "look" ∷ words → look names words ≡ Ok c → IsCommandLine names line c
+  look_is line words c w e =
+      let a = made_of taking (arrival names words) c e in
+      subst (IsCommandLine names line) (sym a.2) (record { behind = words; words = w; are = arrival_is names words a.0 a.1 })
 
-  pub command_said : (line : List ℕ) (c : StudyCommand) → IsCommandLine names line c → command names line ≡ Ok c
-  command_said line (Take l) h = said (codes "look") (look names) look_said line l Take _ h
-  command_said line Show h = past (codes "look") (codes "show") line [] _ _ h refl ∙ here (codes "show") line [] show _ h
+  command_said : (line : List ℕ) (c : StudyCommand) → IsCommandLine names line c → command names line ≡ Some (Ok c)
+  command_said line (Take l) h = ap (λ o. either_of o (behind (codes "show") show line))
+      (line_said {Are = IsLook} (codes "look") (look names) look_said line (Take l) h)
+  command_said line Show h =
+      ap (λ ws. either_of (option_map (look names) (words_behind (codes "look") ws)) (option_map show (words_behind (codes "show") ws))) h
 
-  no_words : (words : Words) (c : StudyCommand) → show words ≡ Ok c → (words ≡ []) × (c ≡ Show)
-  no_words [] c e = (refl, sym (same_value Show c e))
-  no_words (word ∷ words) c e = absurd (let k : ◌≡◌ {A = Result StudyCommand LineKind} (Err WordCount) (Ok c) = e in cc)
-
-  pub command_is : (line : List ℕ) (c : StudyCommand) → command names line ≡ Ok c → IsCommandLine names line c
-  command_is line c e = elim (reads (codes "look") (look names) look_is line Take _ c e) [
-    | inl t ↦ subst (IsCommandLine names line) (sym t.2) t.1
-    | inr o ↦ elim (taken (codes "show") line show _ c o) [
-      | inl t ↦ let s = no_words t.0 c t.2 in
-          subst (IsCommandLine names line) (sym s.1) (t.1 ∙ ap (λ ws. codes "show" ∷ ws) s.0)
-      | inr p ↦ none c p.1
-    ]
-  ]
+  command_is : (line : List ℕ) (c : StudyCommand) → command names line ≡ Some (Ok c) → IsCommandLine names line c
+  command_is line c e = by (words_behind (codes "look") (words_of line)) (words_behind (codes "show") (words_of line)) refl refl e
+    where
+      by : (looks shows : Option Words) → looks ≡ words_behind (codes "look") (words_of line) → shows ≡ words_behind (codes "show") (words_of line)
+          → either_of (option_map (look names) looks) (option_map show shows) ≡ Some (Ok c) → IsCommandLine names line c
+      by (Some words) shows f g q = look_is line words c (keyword_found (codes "look") (words_of line) words f) (some_result (look names words) (Ok c) q)
+      by None (Some []) f g q = subst (IsCommandLine names line) (same_value Show c (some_result (Ok Show) (Ok c) q)) (keyword_found (codes "show") (words_of line) [] g)
+      by None (Some (word ∷ words)) f g q =
+          absurd (let k : ◌≡◌ {A = Result StudyCommand LineKind} (Err WordCount) (Ok c) = some_result (Err WordCount) (Ok c) q in cc)
+      by None None f g q = absurd (cc)
 
   -- ---- all lines
 
-  abbrev Say : List StudyCommand → Words → List StudyCommand → Type 0
-  Say before lines all = run (commands names) before lines ≡ Ok all
+  zip_said : (lines : Words) (cs : List StudyCommand) → AreCommandLines names lines cs → AllZip (λ line c. command names line ≡ Some (Ok c)) lines cs
+  zip_said [] [] h = tt
+  zip_said [] (c ∷ cs) h = absurd h
+  zip_said (line ∷ lines) [] h = absurd h
+  zip_said (line ∷ lines) (c ∷ cs) h = (command_said line c h.0, zip_said lines cs h.1)
 
-  all_said : (before : List StudyCommand) (lines : Words) (cs : List StudyCommand) → AreCommandLines names lines cs → Say before lines (before ++ cs)
-  all_said before [] [] h = ap Ok (sym (append-nil before))
-  all_said before [] (c ∷ cs) h = absurd h
-  all_said before (line ∷ lines) [] h = absurd h
-  all_said before (line ∷ lines) (c ∷ cs) h =
-      run_line (commands names) before (before ++ c ∷ []) line lines (ap (λ r. and_then r (λ d. Ok (before ++ d ∷ []))) (command_said line c h.0))
-      ∙ all_said (before ++ c ∷ []) lines cs h.1 ∙ ap Ok (append_assoc before (c ∷ []) cs)
+  many_are : (before cs : List StudyCommand) (rows : List Row) (rest : List (Seen (List ℕ))) → rest ≡ []
+      → AreMany (command names) (λ ys a. Is {L = List ℕ} {K = LineKind} (Say a)) before (texts_seen rows) cs rest → AreCommandLines names (texts_in rows) cs
+  many_are before [] [] rest e m = tt
+  many_are before [] (row ∷ rows) rest e m = absurd (let k : rest ≡ texts_seen (row ∷ rows) = m.0 in cc)
+  many_are before (c ∷ cs) [] rest e m = absurd (let k : [] ≡ m.3.row ∷ m.1 = m.3.rows_are in cc)
+  many_are before (c ∷ cs) (row ∷ rows) rest e m =
+      let seen : record { number = row.number; line = row.text } ∷ texts_seen rows ≡ m.3.row ∷ m.1 = m.3.rows_are in
+      let first : record { number = row.number; line = row.text } ≡ m.3.row = cc in
+      let others : texts_seen rows ≡ m.1 = cc in
+      let says : command names row.text ≡ Some (Ok m.0) = ap (λ (s : Seen (List ℕ)). command names s.line) first ∙ m.3.says in (
+        command_is row.text c (says ∙ ap (λ a. Some (Ok a)) (sym m.4.0)),
+        many_are (before ++ c ∷ []) cs rows rest e
+            (subst (λ rs. AreMany (command names) (λ ys a. Is {L = List ℕ} {K = LineKind} (Say a)) (before ++ c ∷ []) rs cs rest) (m.4.1 ∙ sym others) m.5),
+      )
 
-  abbrev From : List StudyCommand → Words → List StudyCommand → Type 0
-  From before lines all = (cs : List StudyCommand) × AreCommandLines names lines cs × (all ≡ before ++ cs)
+  seen_texts : (rows : List Row) → lines_of (texts_seen rows) ≡ texts_in rows
+  seen_texts [] = refl
+  seen_texts (row ∷ rows) = ap (λ (ls : Words). row.text ∷ ls) (seen_texts rows)
 
-  said_all : (before : List StudyCommand) (lines : Words) (all : List StudyCommand) → Say before lines all → From before lines all
-  said_all before [] all e = ([], tt, sym (same_value before all e) ∙ sym (append-nil before))
-  said_all before (line ∷ lines) all e =
-      let first = came_from (and_then (command names line) (λ d. Ok (before ++ d ∷ []))) (λ next. run (commands names) next lines) all e in
-      let c = came_from (command names line) (λ d. Ok (before ++ d ∷ [])) first.0 first.1 in
-      let next : first.0 ≡ before ++ c.0 ∷ [] = sym (same_value (before ++ c.0 ∷ []) first.0 c.2) in
-      let more = said_all first.0 lines all first.2 in
-      (c.0 ∷ more.0, (command_is line c.0 c.1, more.1), more.2 ∙ ap (λ cs. cs ++ more.0) next ∙ append_assoc before (c.0 ∷ []) more.0)
+  -- ---- the first fault
+
+  -- what is read after some commands
+  abbrev After : List StudyCommand → List Row → ℕ → Result (List StudyCommand) (FaultAt LineKind)
+  After before rows end = reading kinds (more_lines (command names) before) (texts_seen rows) end
+
+  expected_said : (line : List ℕ) (c : StudyCommand) → expected kinds (command names line) ≡ Ok c → command names line ≡ Some (Ok c)
+  expected_said line c e = by (command names line) e
+    where
+      by : (o : Option (Result StudyCommand LineKind)) → expected kinds o ≡ Ok c → o ≡ Some (Ok c)
+      by (Some r) q = ap Some q
+      by None q = absurd (cc)
+
+  one_more : (row : Row) (rows : List Row) (number : ℕ) (kind : LineKind) (c : StudyCommand) → command names row.text ≡ Some (Ok c)
+      → IsFirstBadLine names rows number kind → IsFirstBadLine names (row ∷ rows) number kind
+  one_more row rows number kind c e b = record {
+    before = row ∷ b.before;
+    row = b.row;
+    after = b.after;
+    rows_are = ap (λ rs. row ∷ rs) b.rows_are;
+    number_is = b.number_is;
+    said = c ∷ b.said;
+    commands = (command_is row.text c e, b.commands);
+    bad = b.bad;
+  }
+
+  bad_line : (before : List StudyCommand) (rows : List Row) (end number : ℕ) (kind : LineKind) → After before rows end ≡ Err (record { line = number; kind = kind })
+      → IsFirstBadLine names rows number kind
+  bad_line before [] end number kind e = absurd (let k : ◌≡◌ {A = Result (List StudyCommand) (FaultAt LineKind)} (Ok before) (Err (record { line = number; kind = kind })) = e in cc)
+  bad_line before (row ∷ rows) end number kind e = by (expected kinds (command names row.text)) refl (λ c k. bad_line (before ++ c ∷ []) rows end number kind k)
+    where
+      by : (r : Result StudyCommand LineKind) → expected kinds (command names row.text) ≡ r
+          → ((c : StudyCommand) → After (before ++ c ∷ []) rows end ≡ Err (record { line = number; kind = kind }) → IsFirstBadLine names rows number kind)
+          → IsFirstBadLine names (row ∷ rows) number kind
+      by (Ok c) q later =
+          let next = lines_taken kinds (command names) before (record { number = row.number; line = row.text }) (texts_seen rows) end c q in
+          one_more row rows number kind c (expected_said row.text c q) (later c (sym next ∙ e))
+      by (Err k) q later =
+          let step = lines_step kinds (command names) before (record { number = row.number; line = row.text }) (texts_seen rows) end in
+          let fault : ◌≡◌ {A = Result (List StudyCommand) (FaultAt LineKind)} (Err (record { line = row.number; kind = k })) (Err (record { line = number; kind = kind })) =
+          sym (step ∙ (rw q refl)) ∙ e in
+          let same = same_fault (record { line = row.number; kind = k }) (record { line = number; kind = kind }) fault in record {
+            before = [];
+            row = row;
+            after = rows;
+            rows_are = refl;
+            number_is = sym (ap (λ f. f.line) same);
+            said = [];
+            commands = tt;
+            bad = q ∙ ap Err (ap (λ f. f.kind) same);
+          }
+
+  line_bad : (before : List StudyCommand) (first : List Row) (row : Row) (after : List Row) (said : List StudyCommand) (end : ℕ) (kind : LineKind)
+      → AreCommandLines names (texts_in first) said → expected kinds (command names row.text) ≡ Err kind
+      → After before (first ++ row ∷ after) end ≡ Err (record { line = row.number; kind = kind })
+  line_bad before [] row after said end kind h bad =
+      lines_step kinds (command names) before (record { number = row.number; line = row.text }) (texts_seen after) end ∙ (rw bad refl)
+  line_bad before (x ∷ xs) row after [] end kind h bad = absurd h
+  line_bad before (x ∷ xs) row after (c ∷ said) end kind h bad =
+      lines_taken kinds (command names) before (record { number = x.number; line = x.text }) (texts_seen (xs ++ row ∷ after)) end c (ap (expected kinds) (command_said x.text c h.0))
+      ∙ line_bad (before ++ c ∷ []) xs row after said end kind h.1 bad
 
   -- ---- looks
 
@@ -95,36 +170,45 @@ module _ (names : Words) where
   all_below (line ∷ lines) [] h = absurd h
   all_below (line ∷ lines) (c ∷ cs) h = (below line c h.0, all_below lines cs h.1)
 
-  commands_said : (lines : Words) (cs : List StudyCommand) → AreCommandLines names lines cs → IsDocument (commands names) [] lines cs
-  commands_said lines cs h = run_documents (commands names) [] lines cs (all_said [] lines cs h)
-
-  said_commands : (lines : Words) (cs : List StudyCommand) → IsDocument (commands names) [] lines cs → AreCommandLines names lines cs
-  said_commands lines cs d =
-      let f = said_all [] lines cs (document_runs (commands names) [] lines cs d) in
-      subst (AreCommandLines names lines) (sym f.2) f.1
-
 pub commands_of_lines : CommandsAreOfLines
 unfolding commands_of
 commands_of_lines names bytes cs =
-    let read = (read_as (commands names) [] (rows_of bytes) (end_of bytes)).says cs in
-    let lines = texts_in (rows_of bytes) in
-    ((λ e. said_commands names lines cs (read.0 e)), (λ h. read.1 (commands_said names lines cs h)))
+    let rows = rows_of bytes in
+    let read = reading_as kinds (commands names) (texts_seen rows) (end_of bytes) cs in (
+      (λ e.
+          let d = read.0 e in
+          subst (AreCommandLines names (texts_in rows)) (sym d.1) (many_are names [] d.0 rows [] refl d.2)),
+      (λ h. read.1 (spelt_document (commands names) (texts_in rows) cs (texts_seen rows)
+          (spells_lines (command names) [] (texts_in rows) cs [] (zip_said names (texts_in rows) cs h) tt) (seen_texts names rows))),
+    )
 
 pub faults_of_lines : FaultsAreBadLines
 unfolding commands_of
-faults_of_lines names bytes number kind =
-    (read_as (commands names) [] (rows_of bytes) (end_of bytes)).fails (record { line = number; kind = kind })
+faults_of_lines names bytes number kind = (
+  (λ e. bad_line names [] (rows_of bytes) (end_of bytes) number kind e),
+  (λ b. ap (λ rs. reading kinds (commands names) (texts_seen rs) (end_of bytes)) b.rows_are
+      ∙ line_bad names [] b.before b.row b.after b.said (end_of bytes) kind b.commands b.bad
+      ∙ ap (λ n. Err (record { line = n; kind = kind })) (sym b.number_is)),
+)
 
--- ---- what is read
+pub faults_first : FaultsAreFirst
+faults_first names bytes = (
+  faults_end kinds (commands names) (texts_seen (rows_of bytes)) (end_of bytes) (lines_can kinds (command names) []),
+  none_is_fault kinds (commands names) (texts_seen (rows_of bytes)) (end_of bytes) (lines_can kinds (command names) []),
+)
 
--- an answer of the reader
-abbrev IsRead : Words → List ℕ → Result (List StudyCommand) CommandsFault → Type 0
-IsRead names bytes r = IsUnless NoMemory r (told_as on_line (reading (commands names) [] (rows_of bytes) (end_of bytes)))
+-- ---- the reader's loop
 
-pub commands_read : (names : Words) (bytes : List ℕ) (r : Result (List StudyCommand) CommandsFault) → IsRead names bytes r
-    → IsUnless NoMemory r (told_as on_line (commands_of names bytes))
-unfolding commands_of
-commands_read names bytes r h = h
+told_value : (r : Result StudyCommand LineKind) (number : ℕ) (x : StudyCommand) → Ok x ≡ told_as (Line number) r → r ≡ Ok x
+told_value (Ok y) number x e = ap Ok (sym (same_value x y e))
+told_value (Err k) number x e = absurd (cc e)
+
+-- a line is taken, and its command is said
+pub line_taken : (names : Words) (cs : List StudyCommand) (row : Row) (rows : List Row) (end : ℕ) (c : StudyCommand)
+    → Ok c ≡ told_as (Line row.number) (expected kinds (command names row.text))
+    → reading kinds (more_lines (command names) cs) (texts_seen (row ∷ rows)) end ≡ reading kinds (more_lines (command names) (cs ++ c ∷ [])) (texts_seen rows) end
+line_taken names cs row rows end c e =
+    lines_taken kinds (command names) cs (record { number = row.number; line = row.text }) (texts_seen rows) end c (told_value _ row.number c e)
 
 value_told : (r : Result (List StudyCommand) (FaultAt LineKind)) (cs : List StudyCommand) → told_as on_line r ≡ Ok cs → r ≡ Ok cs
 value_told (Ok ds) cs e = ap Ok (same_value ds cs e)
@@ -147,9 +231,9 @@ pub commands_refused : (names : Words) (bytes : List ℕ) (number : ℕ) (kind :
 commands_refused names bytes number kind (inl e) = absurd (cc e)
 commands_refused names bytes number kind (inr e) = fault_told (commands_of names bytes) number kind e
 
-pub read_below : (names : Words) (bytes : List ℕ) (r : Result (List StudyCommand) CommandsFault) → IsRead names bytes r
+pub read_below : (names : Words) (bytes : List ℕ) (r : Result (List StudyCommand) CommandsFault) → IsUnless NoMemory r (told_as on_line (commands_of names bytes))
     → IfOk r (AllByRecursion (IsBelow (length names)))
 read_below names bytes (Ok cs) h =
-    let said = commands_found names bytes cs (commands_read names bytes (Ok cs) h) in
+    let said = commands_found names bytes cs h in
     all_below names (texts_in (rows_of bytes)) cs ((commands_of_lines names bytes cs).0 said)
 read_below names bytes (Err fault) h = tt

@@ -5,3 +5,4 @@ pub mod KeptLooks
 pub mod LookPlaces
 pub mod Looks
 pub mod OneEnd
+pub mod SameLanguage

@@ -1,8 +1,8 @@
 -- The first line of a text that says no command, and what is wrong with it.
 use Rattle.std.specs.Prelude.{◌≡◌, ℕ, List, Err}
 use Rattle.edge_text.specs.declared.fault.LineKind.{LineKind}
-use Rattle.text_lines.specs.Languages.{FaultAt}
-use Rattle.study_answers.specs.CommandLanguage.{commands_of}
+use Rattle.text_lines.specs.Faults.{FaultAt}
+use Rattle.study_answers.specs.Commands.{commands_of}
 use Rattle.study_answers.specs.declared.fault.CommandsFault.{CommandsFault}
 use Rattle.study_answers.specs.declared.fault.CommandsFault.TheVariants.{Line}
 

@@ -5,7 +5,7 @@ use Rattle.graph_io.specs.declared.keeper.Look.{Look}
 use Rattle.case_model.specs.declared.draft_stages.Arrival.{Arrival}
 use Rattle.text_lines.specs.Words.{words_of}
 use Rattle.edge_text.specs.Grammar.{IsLineOf, IsArrival}
-use Rattle.study_answers.specs.CommandLanguage.{commands_of}
+use Rattle.study_answers.specs.Commands.{commands_of}
 use Rattle.study_answers.specs.declared.command.StudyCommand.{StudyCommand}
 use Rattle.study_answers.specs.declared.command.StudyCommand.TheVariants.{Take, Show}
 

@@ -1,10 +1,12 @@
 pub mod AnswerView
 pub mod Asking
 pub mod CommandFaults
-pub mod CommandLanguage
 pub mod CommandLines
 pub mod CommandStatements
+pub mod Commands
 pub mod KeeperWays
 pub mod Replies
 pub mod StudyStages
 pub mod StudyStatements
+pub mod CommandLanguage
+pub mod SameLanguage

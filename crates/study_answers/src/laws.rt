@@ -1,7 +1,8 @@
 //! Laws of studies whose looks are kept, and of texts of commands. Each function states laws that hold of all cases, and does nothing.
 
 ghost use Rattle.study_answers.specs.StudyStatements.{StudiesHaveOneEnd, RepliesDecide, KeptLooksDecide, TakenLooksAreFirst};
-ghost use Rattle.study_answers.specs.CommandStatements.{CommandsAreOfLines, FaultsAreBadLines};
+ghost use Rattle.study_answers.specs.SameLanguage.{TheSame};
+ghost use Rattle.study_answers.specs.CommandStatements.{CommandsAreOfLines, FaultsAreBadLines, FaultsAreFirst};
 
 /// Kept looks and commands have one end: one answer with the looks that are kept also, or one refusal, and not both.
 pub fn studies_have_one_end()
@@ -22,8 +23,10 @@ pub fn taken_looks_are_first()
 {}
 
 /// A text denotes commands exactly if its lines that aren't skipped denote them, one each. Its first fault is that of the
-/// first line that denotes no command.
+/// first line that denotes no command, which is where no text of commands continues.
 pub fn commands_are_read_by_lines()
     ensures said { CommandsAreOfLines }
     ensures fault { FaultsAreBadLines }
+    ensures first { FaultsAreFirst }
+    ensures same { TheSame }
 {}

@@ -1,11 +1,9 @@
 //! The reader of commands.
-ghost use Rattle.std.specs.Prelude.{IfOk, [], length};
+ghost use Rattle.std.specs.Prelude.{IfOk, length};
 ghost use Rattle.std.specs.List.{AllByRecursion};
 ghost use Rattle.field_core.specs.Answers.{IsUnless, told_as};
 ghost use Rattle.case_model.specs.CaseView.{content};
-ghost use Rattle.text_lines.specs.Languages.{reading};
-ghost use Rattle.text_lines.specs.Lines.{rows_of, end_of};
-ghost use Rattle.study_answers.specs.CommandLanguage.{commands, commands_of};
+ghost use Rattle.study_answers.specs.Commands.{commands_of};
 ghost use Rattle.study_answers.specs.CommandLines.{IsBelow};
 ghost use Rattle.study_answers.specs.CommandFaults.{on_line};
 ghost use Rattle.study_answers.specs.declared.fault.CommandsFault.TheVariants.{NoMemory};
@@ -17,9 +15,9 @@ use std::alloc::Global;
 use text_lines::Lines;
 
 /// Reads a text of commands, line by line.
+#[tactic(auto, unfolding(crate::specs::Commands::commands_of))]
 fn read(alloc: Global, case: &Case, bytes: &[u8]) -> Result<List<StudyCommand>, CommandsFault>
-    ensures { IsUnless NoMemory result
-        (told_as on_line (reading (commands (content case.now).names) [] (rows_of bytes.now) (end_of bytes.now))) }
+    ensures { IsUnless NoMemory result (told_as on_line (commands_of (content case.now).names bytes.now)) }
 {
     let mut commands = List::new(alloc);
     for line in Lines::new(bytes) {

@@ -4,7 +4,9 @@ ghost use Rattle.field_core.specs.Answers.{told_as};
 ghost use Rattle.case_model.specs.CaseView.{content};
 ghost use Rattle.edge_text.specs.WordReading.{numeral, whole};
 ghost use Rattle.text_lines.specs.Words.{words_of};
-ghost use Rattle.study_answers.specs.CommandLanguage.{look, show, command};
+ghost use Rattle.text_lines.specs.Kinds.{expected};
+ghost use Rattle.edge_text.specs.Document.{kinds};
+ghost use Rattle.study_answers.specs.Commands.{look, show, command};
 ghost use Rattle.study_answers.specs.declared.fault.CommandsFault.TheVariants as faults;
 
 use crate::{CommandsFault, StudyCommand};
@@ -38,7 +40,7 @@ fn whole(line: &Line, word: &[u8]) -> Result<u32, CommandsFault>
 }
 
 /// Returns the look that the words after `look` say, of a hypothesis of the case.
-fn look(line: &Line, words: Words, case: &Case) -> Result<Look, CommandsFault>
+fn look(line: &Line, words: Words, case: &Case) -> Result<StudyCommand, CommandsFault>
     ensures { result ≡ told_as (faults.Line line.now.number) (look (content case.now).names (words_of words.entry)) }
 {
     let Some((name, stage, p)) = words.three() else {
@@ -49,11 +51,11 @@ fn look(line: &Line, words: Words, case: &Case) -> Result<Look, CommandsFault>
     };
     let stage = whole(line, stage)?;
     let p = numeral(line, p)?;
-    Ok(Look {
+    Ok(StudyCommand::Take(Look {
         hypothesis: hypothesis as u32,
         stage,
         p,
-    })
+    }))
 }
 
 /// Returns the command of a line after `show`: no word follows.
@@ -68,10 +70,10 @@ fn show(line: &Line, mut words: Words) -> Result<StudyCommand, CommandsFault>
 
 /// Returns the command that a line says.
 pub fn command(line: &Line, case: &Case) -> Result<StudyCommand, CommandsFault>
-    ensures { result ≡ told_as (faults.Line line.now.number) (command (content case.now).names line.now.text.now) }
+    ensures { result ≡ told_as (faults.Line line.now.number) (expected kinds (command (content case.now).names line.now.text.now)) }
 {
     if let Some(words) = line.behind(b"look") {
-        return Ok(StudyCommand::Take(look(line, words, case)?));
+        return look(line, words, case);
     }
     if let Some(words) = line.behind(b"show") {
         return show(line, words);

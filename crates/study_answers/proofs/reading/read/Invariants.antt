@@ -1,11 +1,13 @@
-use Rattle.std.proofs.Common.{◌≡◌, []}
+use Rattle.std.proofs.Common.{◌≡◌}
 use Rattle.case_model.specs.CaseView.{content}
-use Rattle.text_lines.specs.Languages.{reading}
-use Rattle.text_lines.specs.Lines.{rows_of, end_of, rows_left}
-use Rattle.study_answers.specs.CommandLanguage.{commands}
+use Rattle.text_lines.specs.Forms.{reading, texts_seen}
+use Rattle.text_lines.specs.Kinds.{more_lines}
+use Rattle.text_lines.specs.Lines.{end_of, rows_left}
+use Rattle.edge_text.specs.Document.{kinds}
+use Rattle.study_answers.specs.Commands.{command, commands_of}
 use Rattle.study_answers.proofs.reading.read.Given as goal
 
 abbrev pub invariant-loop-line : goal.invariant-loop-line
 invariant-loop-line l =
     let names = (content l.fn.case).names in
-    reading (commands names) [] (rows_of l.fn.bytes) (end_of l.fn.bytes) ≡ reading (commands names) l.commands (rows_left l.line-iterator) (end_of l.fn.bytes)
+    commands_of names l.fn.bytes ≡ reading kinds (more_lines (command names) l.commands) (texts_seen (rows_left l.line-iterator)) (end_of l.fn.bytes)
