@@ -60,6 +60,10 @@ check_call form case proof = and_then (accepted form check_needs case) (λ c. an
 abbrev pub IsCheckable : Written → Option (List ℕ) → Type 0
 IsCheckable form case = (c : Content) × (accepted form check_needs case).Gives c
 
+-- the source denotes no case that `check` can take
+abbrev pub IsUncheckable : Written → Option (List ℕ) → Type 0
+IsUncheckable form case = (r : Refusal) × (accepted form check_needs case).Refuses r
+
 -- what a command answers to a case and a proof
 unfoldable pub call_of : Asked → Option (List ℕ) → Option (List ℕ) → Stage Refusal Answer
 call_of (task_on_case form task) case proof = case_call form task case
@@ -83,6 +87,14 @@ TakesProof (catalogue graph) case = ⊥
 TakesProof (check form file) case = IsCheckable form case
 TakesProof (sample size seed) case = ⊥
 TakesProof help case = ⊥
+
+-- a command that reads a proof can't take the case before it
+unfoldable pub StopsAtCase : Asked → Option (List ℕ) → Type 0
+StopsAtCase (task_on_case form task) case = ⊥
+StopsAtCase (catalogue graph) case = ⊥
+StopsAtCase (check form file) case = IsUncheckable form case
+StopsAtCase (sample size seed) case = ⊥
+StopsAtCase help case = ⊥
 
 -- a source that a command reads had a fault
 abbrev pub CallFault : Asked → Option (List ℕ) → Type 0 → Type 0 → Type 0

@@ -6,7 +6,7 @@ use Rattle.answers.specs.Stages.{Stage, and_then, told_as}
 use Rattle.command_words.specs.Asked.{Asked, StudyAsked, file_of}
 use Rattle.command_words.specs.Words.{asked_in, study_in, stage_of}
 use Rattle.refusals.specs.UsageRefusal.{usage}
-use Rattle.graph_cli.specs.Commands.{call_of, TakesCase, TakesProof}
+use Rattle.graph_cli.specs.Commands.{call_of, TakesCase, TakesProof, StopsAtCase}
 
 -- the outcome of words, a case and a proof
 abbrev pub outcome : List (List ℕ) → Option (List ℕ) → Option (List ℕ) → Stage Refusal Answer
@@ -32,6 +32,10 @@ ReadsCase words = (command : Asked) × AskFor words command × TakesCase command
 -- the words ask for a command that reads a proof, and nothing before the proof refuses
 abbrev pub ReadsProof : List (List ℕ) → Option (List ℕ) → Type 0
 ReadsProof words case = (command : Asked) × AskFor words command × TakesProof command case
+
+-- the words ask for a command that reads a proof, and the case before the proof is refused
+abbrev pub RefusesCase : List (List ℕ) → Option (List ℕ) → Type 0
+RefusesCase words case = (command : Asked) × AskFor words command × StopsAtCase command case
 
 -- a source that is read had a fault
 abbrev pub ReadRose : List (List ℕ) → Option (List ℕ) → Type 0 → Type 0 → Type 0

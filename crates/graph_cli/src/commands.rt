@@ -1,8 +1,8 @@
 //! The commands.
-ghost use Rattle.std.specs.Prelude.{◌≡◌, ◌≤◌, ◌⊎◌, OnOk, length};
+ghost use Rattle.std.specs.Prelude.{◌≡◌, ◌≤◌, ◌<◌, ◌⊎◌, OnOk, length};
 ghost use Rattle.std.specs.Io.KnownBytes.{IsAtEnd};
 ghost use Rattle.graph_io.specs.Causes.{Rose};
-ghost use Rattle.answers.specs.Ways.{EndsIn, over_source};
+ghost use Rattle.answers.specs.Ways.{EndsIn, IfConcluded, over_source};
 ghost use Rattle.case_model.specs.CaseView.{content};
 ghost use Rattle.command_words.specs.Asked.{asked, written};
 ghost use Rattle.graph_cli.specs.Accepted.{IsOfKind, IsTakenWithin};
@@ -13,9 +13,11 @@ ghost use Rattle.graph_cli.specs.Commands.{
   check_needs,
   check_call,
   IsCheckable,
+  IsUncheckable,
   call_of,
   TakesCase,
   TakesProof,
+  StopsAtCase,
   CallFault,
 };
 ghost use Rattle.graph_cli.specs.Troubles.{Meets};
@@ -128,6 +130,8 @@ fn check_call<S: Source, T: Source>(
     ensures case_end { OnOk result (IsAtEnd (S.left case.new)) }
     ensures proof_kept { ¬ IsCheckable (written form.now) (S.left case.old) → proof.new ≡ proof.old }
     ensures proof_end { OnOk result (IsAtEnd (T.left proof.new)) }
+    ensures proof_asked { ¬ IsUncheckable (written form.now) (S.left case.old) →
+        IfConcluded (T.calls proof.old < T.calls proof.new) result }
     ensures case_taken { IsTakenWithin S.left S.calls case.old case.new }
     ensures proof_taken { IsTakenWithin T.left T.calls proof.old proof.new }
 {
@@ -138,7 +142,7 @@ fn check_call<S: Source, T: Source>(
 }
 
 /// Returns what a command answers to a case and a proof. It takes from a source only what it needs.
-#[tactic(auto, using(crate::proofs::Taken::untouched), unfolding(crate::specs::Commands::call_of, crate::specs::Commands::TakesCase, crate::specs::Commands::TakesProof))]
+#[tactic(auto, using(crate::proofs::Taken::untouched), unfolding(crate::specs::Commands::call_of, crate::specs::Commands::TakesCase, crate::specs::Commands::TakesProof, crate::specs::Commands::StopsAtCase))]
 pub fn call<S: Source, T: Source>(
     alloc: Global,
     command: &Command,
@@ -154,6 +158,9 @@ pub fn call<S: Source, T: Source>(
     ensures proof_kept { ¬ TakesProof (asked command.now) (S.left case.old) → proof.new ≡ proof.old }
     ensures proof_end { TakesProof (asked command.now) (S.left case.old) →
         OnOk result (IsAtEnd (T.left proof.new)) }
+    ensures proof_asked { TakesProof (asked command.now) (S.left case.old) →
+        ¬ StopsAtCase (asked command.now) (S.left case.old) →
+        IfConcluded (T.calls proof.old < T.calls proof.new) result }
     ensures case_taken { IsTakenWithin S.left S.calls case.old case.new }
     ensures proof_taken { IsTakenWithin T.left T.calls proof.old proof.new }
 {

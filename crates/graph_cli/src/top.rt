@@ -1,11 +1,11 @@
 //! The top call.
-ghost use Rattle.std.specs.Prelude.{◌≡◌, ℕ, None, OnOk, IfSome, map, string_bytes};
+ghost use Rattle.std.specs.Prelude.{◌≡◌, ◌<◌, ℕ, None, OnOk, IfSome, map, string_bytes};
 ghost use Rattle.std.specs.Io.KnownBytes.{IsAtEnd};
 ghost use Rattle.graph_io.specs.Causes.{Rose};
-ghost use Rattle.answers.specs.Runs.{Runs, Uses};
-ghost use Rattle.answers.specs.Ways.{EndsIn, over_source};
+ghost use Rattle.answers.specs.Runs.{Runs, Uses, IsConcluded};
+ghost use Rattle.answers.specs.Ways.{EndsIn, IfConcluded, over_source};
 ghost use Rattle.graph_cli.specs.Accepted.{IsTakenWithin};
-ghost use Rattle.graph_cli.specs.Outcome.{NamesFile, outcome, ReadsCase, ReadsProof, ReadRose};
+ghost use Rattle.graph_cli.specs.Outcome.{NamesFile, outcome, ReadsCase, ReadsProof, ReadRose, RefusesCase};
 
 use crate::commands::call;
 use answers::{Answer, Stop, conclude};
@@ -47,6 +47,9 @@ fn answer<S: Source, T: Source>(
         proof.new ≡ proof.old }
     ensures proof_end { ReadsProof (map string_bytes words.now) (S.left case.old) →
         OnOk result (IsAtEnd (T.left proof.new)) }
+    ensures proof_asked { ReadsProof (map string_bytes words.now) (S.left case.old) →
+        ¬ RefusesCase (map string_bytes words.now) (S.left case.old) →
+        IfConcluded (T.calls proof.old < T.calls proof.new) result }
     ensures case_taken { IsTakenWithin S.left S.calls case.old case.new }
     ensures proof_taken { IsTakenWithin T.left T.calls proof.old proof.new }
 {
@@ -58,8 +61,8 @@ fn answer<S: Source, T: Source>(
 
 /// Makes a call of the program: all that it does. `words` are the words after the program's name, `case` is standard input, and
 /// `proof` is the file that `file_word` names. `out` gets the text of the answer, or one line that says why there is none. A
-/// source that the command doesn't read stays as it was; `proof` is read only after a case that the command can take. Of a
-/// source that isn't read to its end, at most one byte more than it may have is taken.
+/// source that the command doesn't read stays as it was; `proof` is read only after a case that the command can take, and then
+/// before anything is answered. Of a source that isn't read to its end, at most one byte more than it may have is taken.
 ///
 /// Statuses: 0 done; 1 the proof doesn't hold; 2 the words aren't accepted. 3: an input is malformed, or isn't of the kind that
 /// the command needs. 4: an input, a size or a seed is past a limit, or a size is 0. 5: a number of the case or of its run is too
@@ -81,6 +84,9 @@ pub fn run<S: Source, T: Source, W: Sink>(
     ensures case { Uses S.left (ReadsCase (map string_bytes words.now)) case.old case.new result }
     ensures proof { Uses T.left (ReadsProof (map string_bytes words.now) (S.left case.old))
         proof.old proof.new result }
+    ensures proof_asked { ReadsProof (map string_bytes words.now) (S.left case.old) →
+        ¬ RefusesCase (map string_bytes words.now) (S.left case.old) → IsConcluded result →
+        T.calls proof.old < T.calls proof.new }
     ensures case_taken { IsTakenWithin S.left S.calls case.old case.new }
     ensures proof_taken { IsTakenWithin T.left T.calls proof.old proof.new }
 {

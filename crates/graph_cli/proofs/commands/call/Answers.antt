@@ -1,7 +1,7 @@
 use Rattle.std.proofs.Common.{inl, inr, refl}
 use Rattle.answers.specs.declared.refusal.Refusal.{Refusal}
 use Rattle.answers.proofs.Stopping.{source_ends, value_ends}
-use Rattle.graph_cli.specs.Commands.{call_of, TakesCase, TakesProof}
+use Rattle.graph_cli.specs.Commands.{call_of, TakesCase, TakesProof, StopsAtCase}
 use Rattle.graph_cli.proofs.commands.call.Goals as goal
 
 pub returns-in-OnCase-clause-ends : goal.returns-in-OnCase-clause-ends
@@ -31,3 +31,7 @@ returns-in-Catalogue-clause-ends g c =
 pub returns-in-Check-clause-proof_kept : goal.returns-in-Check-clause-proof_kept
 unfolding TakesProof
 returns-in-Check-clause-proof_kept g c = rw c.in-Check.is c.check_call.ensures.proof_kept
+
+pub returns-in-Check-clause-proof_asked : goal.returns-in-Check-clause-proof_asked
+unfolding TakesProof StopsAtCase
+returns-in-Check-clause-proof_asked g c = rw c.in-Check.is (λ _. c.check_call.ensures.proof_asked)

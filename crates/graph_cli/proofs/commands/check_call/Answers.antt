@@ -1,7 +1,10 @@
 use Rattle.std.proofs.Common.{inl, inr, refl}
 use Rattle.answers.specs.declared.refusal.Refusal.{Refusal}
-use Rattle.answers.proofs.Stopping.{source_stops, value_ends, handed_on}
+use Rattle.answers.proofs.Stopping.{source_stops, value_ends, handed_on, concluded, unrefused_handed_on}
 use Rattle.case_model.specs.CaseView.{content}
+use Rattle.case_model.specs.Content.{Content}
+use Rattle.command_words.specs.Asked.{written}
+use Rattle.graph_cli.specs.Accepted.{accepted}
 use Rattle.graph_cli.specs.Commands.{check_call}
 use Rattle.graph_cli.proofs.HandedOn.{told_ends}
 use Rattle.graph_cli.proofs.commands.check_call.Goals as goal
@@ -39,3 +42,14 @@ returns-in_err-bytes-clause-proof_kept g c =
 
 pub returns-clause-proof_kept : goal.returns-clause-proof_kept
 returns-clause-proof_kept g c = λ h. absurd (h (content c.in_ok-accepted.accepted, rw c.check_needs.ensures at c.in_ok-accepted.ensures.ends.0))
+
+pub returns-in_err-accepted-clause-proof_asked : goal.returns-in_err-accepted-clause-proof_asked
+returns-in_err-accepted-clause-proof_asked g c = λ none. unrefused_handed_on {A = Content} _
+    (accepted (written c.args.form.now) c.check_needs.result (g.S.Source.left c.args.case.now)) _ _ _ c.in_err-accepted.field-0.0 c.from_residual.ensures.1
+    (λ q h. none (q, rw c.check_needs.ensures at h)) c.in_err-accepted.ensures.ends
+
+pub returns-in_err-bytes-clause-proof_asked : goal.returns-in_err-bytes-clause-proof_asked
+returns-in_err-bytes-clause-proof_asked g c = λ none. concluded _ _ c.in_err-bytes.ensures.asked
+
+pub returns-clause-proof_asked : goal.returns-clause-proof_asked
+returns-clause-proof_asked g c = λ none. concluded _ _ c.in_ok-bytes.ensures.asked
