@@ -5,8 +5,10 @@
 # - by the program, started for each call;
 # - by the algorithm in plain R with doubles, decision and adjusted p-values, which proves and refuses nothing: by loops, and
 #   by whole matrices.
-# Each number is the least of five rounds, elapsed. The package `welungad` has to be installed with the C library for the first
-# three; without it they are NA. The gate requires none of these figures.
+# Each number is the least of five rounds, elapsed. A second table has the seconds of 100,000 trials of three and of sixteen hypotheses:
+# by graph_test_many, and by graph_test and plain R a trial, which are measured on 5,000 of the trials and multiplied by 20. The
+# package `welungad` has to be installed with the C library; without it the numbers that need it are NA. The gate requires none
+# of these figures.
 library(welungad)
 
 program <- commandArgs(TRUE)
@@ -106,3 +108,40 @@ table <- do.call(rbind, lapply(c(3, 16, 64), row))
 names(table) <- c("hypotheses", "in process", "graph_test", "a row of many", "program started", "plain R, loops", "plain R, matrices")
 cat("microseconds a decision\n")
 print(format(table, digits = 3), row.names = FALSE)
+
+# ---- 100,000 trials
+
+trials <- 1e5
+tried <- 5000
+
+seconds <- function(call) system.time(call())[["elapsed"]]
+
+# Seconds of all trials by a function of one, from some of them.
+each <- function(P, decide) seconds(function() for (i in seq_len(tried)) decide(P[i, ])) * trials / tried
+
+many_row <- function(n) {
+  set.seed(n)
+  weights <- rep(1 / n, n)
+  edges <- matrix(1 / (n - 1), n, n)
+  diag(edges) <- 0
+  P <- matrix(pmax(runif(trials * n)^3, 1e-12), trials, n)
+  graph <- graph_create(weights, edges)
+  options(welungad.way = "library")
+  time <- seconds(function() found <<- graph_test_many(graph, P))
+  for (i in 1:200) stopifnot(identical(which(unname(found[i, ])), plain(weights, edges, P[i, ], 0.025)$rejected))
+  data.frame(
+    hypotheses = n,
+    many = time,
+    graph_test = each(P, function(p) graph_test(graph, p)),
+    plain = each(P, function(p) plain(weights, edges, p, 0.025)),
+    matrices = each(P, function(p) plain_by_matrices(weights, edges, p, 0.025))
+  )
+}
+
+if ("library" %in% ways) {
+  found <- NULL
+  table <- do.call(rbind, lapply(c(3, 16), many_row))
+  names(table) <- c("hypotheses", "graph_test_many", "graph_test", "plain R, loops", "plain R, matrices")
+  cat("seconds for 100,000 trials\n")
+  print(format(table, digits = 3), row.names = FALSE)
+}

@@ -1,8 +1,9 @@
 #!/bin/sh
 # Measures a call of `test` from C, Python and R: in process, and by the program, started for each call. Prints a table in
 # microseconds, the least of five rounds: the processor time of a call in process, and the elapsed time of a started program. R's
-# table follows (calls.R), if Rscript and the package of r/ are there, and then 100,000 rows of p-values decided in one call of C
-# (rows.c). The gate requires none of these figures.
+# tables follow (calls.R), if R and the package gmp are there: elapsed times of a decision, and of 100,000 trials. They are those of
+# the package of this checkout, which is installed in bench/out. Before them are 100,000 rows of p-values decided in one call of C
+# (rows.c). It all takes a minute or two. The gate requires none of these figures.
 set -eu
 here=$(dirname -- "$(readlink -f -- "$0")")
 out=$here/out
@@ -34,11 +35,18 @@ for sizes in 'holm-3 2000 50' 'full-16 200 50' 'full-64 5 10'; do
     row 'Python test' "$name" "$2" "$3"
 done
 
-if command -v Rscript >/dev/null && Rscript --vanilla -e 'library(welungad)' >/dev/null 2>&1; then
-    Rscript --vanilla "$here/calls.R" "$program"
-else
-    echo "bench/calls.sh: no rows from R, since Rscript or the package welungad is missing"
-fi
-
 cc -O2 -Wall -Wextra -o "$out/rows" "$here/rows.c" "$here/../c/out/libwelungad.a"
 for name in holm-3 full-16; do "$out/rows" "$out/$name.txt" 100000; done
+
+if ! command -v Rscript >/dev/null || ! Rscript --vanilla -e 'library(gmp)' >/dev/null 2>&1; then
+    echo "bench/calls.sh: no rows from R, since R or its package gmp is missing"
+    exit
+fi
+rm -rf "$out/library" "$out/r"
+mkdir "$out/library"
+cp -R "$here/../r" "$out/r"
+WELUNGAD_INCLUDE=$here/../c WELUNGAD_LIB=$here/../c/out R CMD INSTALL --no-docs --library="$out/library" "$out/r" >"$out/install.log" 2>&1 || {
+    cat "$out/install.log"
+    exit 1
+}
+R_LIBS=$out/library Rscript --vanilla "$here/calls.R" "$program"

@@ -8,7 +8,7 @@ from decimal import Decimal
 from fractions import Fraction
 
 import welungad
-from welungad import _beside, _numbers
+from welungad import _beside, _library, _numbers
 
 try:
     import numpy
@@ -114,6 +114,47 @@ class Readings(unittest.TestCase):
         for _ in range(1000):
             double = chance.random() ** chance.randrange(1, 5)
             self.assertEqual(float(welungad.as_exact(double)), double)
+
+
+def doubles_of_each_kind(chance, count):
+    """Yields doubles from 0 to 1: random bits, doubles less than normal, decimals, quotients, powers of ten and of two, and what is beside them."""
+    one = bits_of(1.0)
+    for _ in range(count):
+        yield double_of(chance.randrange(one + 1))
+        yield round(chance.random(), chance.randrange(1, 18))
+        yield chance.randrange(301) / chance.choice([1, 3, 7, 60, 9999, 10000, 10007]) / 300
+        yield 10 ** -chance.uniform(0, 32)
+    for _ in range(count // 4):
+        yield double_of(chance.randrange(2**52))
+    for power in range(1075):
+        for step in (-1, 0, 1):
+            yield double_of(min(one, bits_of(2.0**-power) + step))
+
+
+class Call(unittest.TestCase):
+    """Whether the call of the library reads doubles as the package does."""
+
+    @unittest.skipIf(_library.readings([0.5]) is None, "the library is an older one")
+    def test_as_the_package(self):
+        doubles = [*doubles_of_each_kind(random.Random(6), 24000)]
+        self.assertGreater(len(doubles), 100000)
+        found = _library.readings(doubles)
+        self.assertEqual(len(found), len(doubles))
+        for double, (n, d) in zip(doubles, found):
+            wanted = _numbers.own_reading(double)
+            self.assertEqual((n, d), (wanted.numerator, wanted.denominator), double)
+
+    @unittest.skipIf(_library.readings([0.5]) is None, "the library is an older one")
+    def test_what_has_no_reading(self):
+        none = [-5e-324, -0.5, 1 + 2**-52, 2.0, float("inf"), -float("inf"), float("nan")]
+        self.assertEqual(_library.readings(none), [(0, 0)] * 7)
+        self.assertEqual(_library.readings([-0.0, 0.0, 1.0]), [(0, 1), (0, 1), (1, 1)])
+        self.assertEqual(_library.readings([]), [])
+
+    def test_own_readings_of_the_table(self):
+        for bits, printed, reading, part in rows():
+            if part != "refused":
+                self.assertEqual(_numbers.own_reading(double_of(bits)), Fraction(reading), printed)
 
 
 class BesideFractions(unittest.TestCase):

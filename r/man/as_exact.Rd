@@ -12,8 +12,16 @@ as_exact(x, total = NULL)
   \item{total}{what the numbers have to sum to, or each row of a matrix; \code{NULL} if no sum is asked for.}
 }
 \details{
-A text is taken as it stands. A double \code{x} is read as n/d with the least d up to 10,000 for which R computes
-\code{n / d == x}. If there is no such d, it is read as the shortest decimal that R reads back as \code{x}.
+A text is taken as it stands. A double from 0 to 1 is read by the first of these rules that applies:
+\enumerate{
+  \item the fraction with the least denominator up to 10,000 for which R computes \code{n / d == x};
+  \item the decimal with the fewest places, up to 30, that is read back as \code{x}, and of several the nearest to it;
+  \item \code{x} rounded up to a multiple of 10^-30.
+}
+If the package has the C library, the library reads the doubles, by a function that is proved. Otherwise, or if the library is of
+an earlier release, the package reads them by the same rule; a test compares the two on 100,000 doubles. A double below 0 is
+read as its opposite is, and one above 1 by rule 1 or as its shortest decimal. No case has such numbers, so they are only named when
+they are refused.
 
 So 1/3 typed in R is 1/3, 0.025 is 1/40, and 0.3333 is 3333/10000. The sum 0.1 + 0.2 is 0.30000000000000004, since R's sum
 is not the double of 3/10.

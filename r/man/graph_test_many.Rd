@@ -13,10 +13,15 @@ graph_test_many(graph, P, alpha = 0.025)
   \item{alpha}{the level: above 0, at most 1, a fraction of whole numbers up to 10,000, so a decimal has at most four digits after the point.}
 }
 \details{
-P-values are read as \code{\link{as_exact}} says. All are read before the first trial is decided. A p-value that is missing or not
-from 0 to 1 is an error with its row and column.
+P-values are read as \code{\link{as_exact}} says. A p-value that is missing or not from 0 to 1 is an error with its row and column,
+before the first trial is decided. P-values that are rounded up to multiples of 10^-30 are reported by one message of class
+\code{welungad_rounded}, which has their rows.
 
-The call can be interrupted. If it takes more than two seconds in an interactive session, it shows a bar.
+A matrix of doubles is decided in blocks of 512 rows, with one call of the C library each. Without the library, with one of an earlier
+release, and for texts and fractions, each row is a call of \code{test}. That call also computes the adjusted p-values, so a row can
+be too wide for it and not for the call of a block.
+
+The call can be interrupted between blocks. If it takes more than two seconds in an interactive session, it shows a bar.
 
 Power is not computed here, and p-values are not simulated: the example simulates correlated normal statistics, and estimates
 the power of each hypothesis and of rejecting at least one.

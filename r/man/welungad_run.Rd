@@ -21,7 +21,8 @@ welungad_ways()
 \details{
 The library is part of the package if \code{WELUNGAD_PREFIX}, or \code{WELUNGAD_INCLUDE} and \code{WELUNGAD_LIB}, named its folders when
 the package was installed. Else the program runs: the one that the environment variable \code{WELUNGAD} names, else the one on
-the path. The option \code{welungad.way} chooses one of both, \code{"library"} or \code{"program"}.
+the path. The option \code{welungad.way} chooses one of both, \code{"library"} or \code{"program"}. \code{\link{graph_study}} and
+\code{\link{graph_report}} need the program in any case.
 
 The calls of this package turn a refusal into a condition of the classes \code{welungad_refusal} and \code{error}. It has the parts
 \code{status} and \code{line} of the program, \code{where} (the argument and the place), \code{amount} (for a sum above 1, how much it
