@@ -60,7 +60,7 @@ pub record DecidesBy (Rejects : (ℕ → Number) → ℕ → Type 0) (c : Conten
   pub tested : IsTestedBy Rejects c
 
 -- The case has the graph of the textbooks, and is decided by their rule at the level 1/20. Fallback has equal weights. Improved parallel gatekeeping has no
--- such rule: a primary hypothesis gets back as much as secondary ones lead to it, and the graph of 32 and 32 hypotheses is too wide.
+-- such rule, since a primary hypothesis gets back as much as secondary ones lead to it. Also, its graph of 32 and 32 hypotheses is too wide.
 abbrev pub HasItsRule : SizedGraph → Content → Type 0
 HasItsRule (Holm n) c = IsHolmGraph (entangled c) × DecidesBy (λ p. IsHolmRejected p twentieth n) c
 HasItsRule (FixedSequence n) c = IsSequenceGraph (entangled c) × DecidesBy (λ p. IsSequenceRejected p twentieth n) c

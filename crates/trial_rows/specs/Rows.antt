@@ -37,8 +37,8 @@ AreUnmarked m marks = (j : ℕ) → j < m → marks j ≡ 0
 abbrev pub IsRunDefined : Content → List Ratio → Type 0
 IsRunDefined c ps = (step : ℕ) (at : WideAt) → ¬ IsWideDecision (with_p c ps) First step at
 
--- What a row of doubles gives: a mark for each hypothesis of the case, and a status. Exactly one of the three is so, since doubles have one reading
--- at most: each double has a reading, and the run with these is defined; one has none; or each has one, and the run is undefined.
+-- What a row of doubles gives: a mark for each hypothesis of the case, and a status. Either each double has a reading, and the run with these is defined;
+-- or one has none; or each has one, and the run is undefined. Exactly one of the three is so, since a double has at most one reading.
 pub data IsRowTested (c : Content) (bits marks : ℕ → ℕ) (status : ℕ) : Type 0 where
   decided : status ≡ 0 → (ps : List Ratio) → AreReadings (length c.names) bits ps → IsRunDefined c ps
       → ((j : ℕ) → j < length c.names → IsMark (IsRejectedIn (with_p c ps) j) (marks j)) → IsRowTested c bits marks status

@@ -70,8 +70,10 @@ fn test_each(
 /// hypotheses that the closed test rejects and 0 for the others. The status is 3 if a double has no reading, and 5 if the run is
 /// undefined; all marks of the row are then 0.
 ///
-/// Errors, with which nothing is written: `Lengths` exactly if there aren't a double and a mark for each hypothesis in each row, else
-/// `Wide` if the opening is undefined, or `NoMemory`.
+/// Errors, with which nothing is written:
+/// - `Lengths`: exactly if there aren't a double and a mark for each hypothesis in each row.
+/// - `Wide`: else, if the opening is undefined.
+/// - `NoMemory`: else, at any time.
 pub fn test_rows(
     alloc: Global,
     case: &Case,
