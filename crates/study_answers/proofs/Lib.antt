@@ -5,4 +5,3 @@ pub mod KeptLooks
 pub mod LookPlaces
 pub mod Looks
 pub mod OneEnd
-pub mod SameLanguage

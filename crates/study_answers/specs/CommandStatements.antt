@@ -1,5 +1,5 @@
 -- What the lines of commands and their first faults promise.
-use Rattle.std.specs.Prelude.{◌≡◌, ◌↔◌, ℕ, List, [], ◌∷◌, ◌++◌, Err}
+use Rattle.std.specs.Prelude.{◌≡◌, ◌↔◌, ℕ, List, ◌∷◌, ◌++◌, Err}
 use Rattle.text_lines.specs.Forms.{texts_seen}
 use Rattle.text_lines.specs.FormStatements.{FaultsAreWhereNoneGoesOn, NoneGoesOnIsFault}
 use Rattle.text_lines.specs.Kinds.{expected}

@@ -3,7 +3,7 @@ use Rattle.std.specs.Prelude.{List, [], ◌∷◌, ℕ, Result, Ok, Err, codes}
 use Rattle.field_core.specs.Answers.{mapped}
 use Rattle.case_model.specs.declared.draft_stages.Arrival.{Arrival}
 use Rattle.text_lines.specs.Faults.{FaultAt}
-use Rattle.text_lines.specs.Forms.{Form, Kinds, Leaf, texts_seen, reading}
+use Rattle.text_lines.specs.Forms.{Form, Leaf, texts_seen, reading}
 use Rattle.text_lines.specs.Kinds.{behind, or_line, more_lines}
 use Rattle.text_lines.specs.Lines.{rows_of, end_of}
 use Rattle.edge_text.specs.Document.{kinds}

@@ -8,5 +8,3 @@ pub mod KeeperWays
 pub mod Replies
 pub mod StudyStages
 pub mod StudyStatements
-pub mod CommandLanguage
-pub mod SameLanguage

@@ -1,7 +1,6 @@
 //! Laws of studies whose looks are kept, and of texts of commands. Each function states laws that hold of all cases, and does nothing.
 
 ghost use Rattle.study_answers.specs.StudyStatements.{StudiesHaveOneEnd, RepliesDecide, KeptLooksDecide, TakenLooksAreFirst};
-ghost use Rattle.study_answers.specs.SameLanguage.{TheSame};
 ghost use Rattle.study_answers.specs.CommandStatements.{CommandsAreOfLines, FaultsAreBadLines, FaultsAreFirst};
 
 /// Kept looks and commands have one end: one answer with the looks that are kept also, or one refusal, and not both.
@@ -28,5 +27,4 @@ pub fn commands_are_read_by_lines()
     ensures said { CommandsAreOfLines }
     ensures fault { FaultsAreBadLines }
     ensures first { FaultsAreFirst }
-    ensures same { TheSame }
 {}

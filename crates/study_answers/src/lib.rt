@@ -3,7 +3,7 @@
 //!
 //! Proved:
 //! - `read_commands`: `read` (what the text denotes, or the first line that denotes no command, with its number and what is
-//!   wrong with it; one function, `commands_of`, defines both). `below` (each look is of a hypothesis of the case).
+//!   wrong with it). Both are what the form of commands reads (`commands_of`). `below` (each look is of a hypothesis of the case).
 //! - `study_answer`: `ends` (`over_keeper`: it gives what the kept looks and the commands require, `study_stage`, and the
 //!   keeper holds its looks too). It is refused only for the opening of the case and for the kept looks, and then no look is
 //!   added. After a fault of the keeper, and out of memory, the looks of the commands up to some place may be added. `later`:
@@ -13,7 +13,7 @@
 //!   - kept looks and commands have one answer; by any commands that are answered to their end, the rejections are those of the
 //!     staged closed test on all looks that are kept.
 //!   - `commands_are_read_by_lines`: a text denotes commands exactly if its lines denote them, one each (`said`). Its first
-//!     fault is that of the first line that denotes none (`fault`).
+//!     fault is that of the first line that denotes none (`fault`), which is where no text of commands continues (`first`).
 #![tactic(auto)]
 
 mod answer;

@@ -1,4 +1,3 @@
-use Rattle.study_answers.proofs.SameLanguage.{same}
 use Rattle.study_answers.proofs.CommandReads.{commands_of_lines, faults_of_lines, faults_first}
 use Rattle.study_answers.proofs.laws.commands_are_read_by_lines.Goals as goal
 
@@ -10,6 +9,3 @@ returns-clause-fault c = faults_of_lines
 
 pub returns-clause-first : goal.returns-clause-first
 returns-clause-first c = faults_first
-
-pub returns-clause-same : goal.returns-clause-same
-returns-clause-same c = same
