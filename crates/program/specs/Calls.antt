@@ -6,6 +6,7 @@ use Rattle.graph_io.specs.Causes.{Rose}
 use Rattle.graph_io.specs.Reading.{TookAtMost}
 use Rattle.graph_io.specs.declared.keeper.Look.{Look}
 use Rattle.answers.specs.declared.answer.Answer.{Answer}
+use Rattle.answers.specs.Runs.{IsConcluded}
 use Rattle.answers.specs.Stages.{most_bytes}
 use Rattle.answers.specs.Ways.{Ways, over_source}
 use Rattle.graph_cli.specs.Outcome as graph
@@ -33,7 +34,7 @@ pub record IsStopped (status : ℕ) (same asked : Type 0) : Type 0 where
 
 -- A call was made over the file that the words name, and `Done` says what was done. The opener is `from` when it was requested to open the file, and
 -- `to` after the call. `before` is what the file held, and `after` what is left of it. It was given back with the number of its calls, and of those
--- that failed. A file that was refused has no bytes, and is not given back; its numbers are left open. If no file is named, none is requested.
+-- that failed. A file that was refused has no bytes, and is not given back; if it was taken from, a take failed. If no file is named, none is requested.
 pub record IsOver {O : Type 0} (Does : O → Ask → O → Type 0) (bytes_at : O → List ℕ → Option (List ℕ)) (MayRefuse : O → List ℕ → Type 0)
     (words : List (List ℕ)) (old new : O) (Done : O → O → (before after : Option (List ℕ)) (faults calls : ℕ) → Type 0) : Type 0 where
   pub from : O
@@ -45,15 +46,16 @@ pub record IsOver {O : Type 0} (Does : O → Ask → O → Type 0) (bytes_at : O
   pub file :
       ((path : List ℕ) × NamesPath words path × Does old (open_file path) from
       × (((before ≡ bytes_at old path) × Does to (close_file path after faults calls) new)
-      ⊎ (MayRefuse old path × (before ≡ Some []) × (new ≡ to))))
+      ⊎ (MayRefuse old path × (before ≡ Some []) × (1 ≤ calls → 1 ≤ faults) × (new ≡ to))))
       ⊎ (((path : List ℕ) → ¬ NamesPath words path) × (from ≡ old) × (new ≡ to) × (before ≡ Some []) × (faults ≡ 0))
   pub done : Done from to before after faults calls
 
 -- What was done with a file. One that isn't read is as it was. With status 0, one that is read was read to its end. At most one byte more than it may
--- have was taken of it, by few takes.
-pub record IsUsed (Reads : Type 0) (before after : Option (List ℕ)) (faults calls status : ℕ) : Type 0 where
+-- have was taken of it, by few takes. If it is read, and nothing before it is refused, a concluded call has taken from it.
+pub record IsUsed (Reads Refuses : Type 0) (before after : Option (List ℕ)) (faults calls status : ℕ) : Type 0 where
   pub untouched : ¬ Reads → (after ≡ before) × (faults ≡ 0) × (calls ≡ 0)
   pub end : Reads → status ≡ 0 → IsAtEnd after
+  pub asked : Reads → ¬ Refuses → IsConcluded status → 1 ≤ calls
   pub taken : IsAtEnd after ⊎ TookAtMost before after (most_bytes + 1)
   pub turns : calls ≤ most_bytes + 1
 
@@ -70,7 +72,7 @@ IsStored {O} Does looks_at words from to kept held faults calls =
 pub record IsRun {O : Type 0} (words : List (List ℕ)) (case : Option (List ℕ)) (case_rose case_same : Type 0) (from to : O)
     (before after : Option (List ℕ)) (faults calls status : ℕ) (Ran : Ways Answer → Type 0) : Type 0 where
   pub same : to ≡ from
-  pub used : IsUsed (graph.ReadsProof words case) before after faults calls status
+  pub used : IsUsed (graph.ReadsProof words case) (graph.RefusesCase words case) before after faults calls status
   pub ran : Ran (over_source (graph.outcome words case before) (graph.ReadRose words case case_rose (Rose 0 faults)) (case_same × (faults ≡ 0)))
 
 -- A call of a study: what was done is what `run_study` does over the file and the looks that were kept.
@@ -85,7 +87,7 @@ pub record IsStudied {O : Type 0} (Does : O → Ask → O → Type 0) (looks_at 
   -- a store of which no looks are requested is as it was
   pub untouched : ¬ study.AsksKeeper words case before → (held ≡ kept) × (keeper_faults ≡ 0)
   pub turns : study.CallsWithin words case before 0 keeper_calls
-  pub used : IsUsed (study.ReadsCommands words case) before after faults calls status
+  pub used : IsUsed (study.ReadsCommands words case) (study.RefusesCase words case) before after faults calls status
   pub ran : Ran (over_keeper (study.study_outcome words case before kept) (study.MayEnd words case before kept)
       (study.ReadRose words case case_rose (Rose 0 faults)) (study.KeeperRose words case before (Rose 0 keeper_faults))
       (case_same × (faults ≡ 0)) (keeper_faults ≡ 0) kept held 0 keeper_calls)

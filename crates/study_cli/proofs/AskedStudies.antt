@@ -1,5 +1,5 @@
 -- What a call with words does, from what the study that they ask for does.
-use Rattle.std.proofs.Common.{◌⊎◌, inl, inr, sym, ◌∙◌, subst, ℕ, List, Result, Ok, Err}
+use Rattle.std.proofs.Common.{◌≡◌, ◌⊎◌, inl, inr, sym, ◌∙◌, subst, ℕ, List, Result, Ok, Err}
 use Rattle.std.specs.declared.option.Option.{Option}
 use Rattle.graph_io.specs.declared.keeper.Look.{Look}
 use Rattle.answers.specs.declared.answer.Answer.{Answer}
@@ -10,6 +10,8 @@ use Rattle.case_model.specs.Content.{Content}
 use Rattle.case_model.specs.declared.inputs.Inputs.{Inputs}
 use Rattle.case_model.specs.declared.inputs.Inputs.TheVariants.{Bare, Single as Values, Staged as Stages}
 use Rattle.command_words.specs.Asked.{StudyAsked}
+use Rattle.command_words.specs.Words.{study_in}
+use Rattle.command_words.proofs.Readings.{stage_decided}
 use Rattle.graph_cli.specs.Accepted.{IsOfKind}
 use Rattle.graph_cli.specs.Outcome.{AskStudy}
 use Rattle.graph_cli.specs.declared.kind.InputKind.TheVariants.{Awaited}
@@ -57,3 +59,7 @@ awaited_staged (Values ps) h = absurd h
 pub case_is_staged : (asked : StudyAsked) (case : Option (List ℕ)) (c : Content) → (case_of asked case).Gives c → IsStaged c.inputs
 unfolding study_needs
 case_is_staged asked case c h = awaited_staged c.inputs (subst (λ (x : Content). IsOfKind Awaited x.inputs) (sym (h.2.2.2.1 ∙ h.2.2.1.1)) h.2.2.1.0)
+
+-- words that aren't accepted ask a study for nothing
+pub unasked : (words : List (List ℕ)) (asked : StudyAsked) (n : ℕ) → AskStudy words asked → study_in words ≡ Err n → ⊥
+unasked words asked n a e = (stage_decided (study_in words)).not_both asked n a e

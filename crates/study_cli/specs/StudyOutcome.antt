@@ -51,6 +51,10 @@ study_outcome words case commands kept = and_then (told_as usage (stage_of (stud
 abbrev pub IsStudied : StudyAsked → Option (List ℕ) → Type 0
 IsStudied asked case = (c : Content) × (case_of asked case).Gives c
 
+-- the source denotes no case that a study can take
+abbrev pub IsUnstudied : StudyAsked → Option (List ℕ) → Type 0
+IsUnstudied asked case = (r : Refusal) × (case_of asked case).Refuses r
+
 -- also, the source denotes commands
 abbrev pub IsCommanded : StudyAsked → Option (List ℕ) → Option (List ℕ) → Type 0
 IsCommanded asked case commands = (c : Content) × (case_of asked case).Gives c × (list : List StudyCommand) × (commands_of c commands).Gives list
@@ -83,6 +87,10 @@ ReadsCommands words case = (asked : StudyAsked) × AskStudy words asked × IsStu
 -- also, nothing before the kept looks refuses
 abbrev pub AsksKeeper : List (List ℕ) → Option (List ℕ) → Option (List ℕ) → Type 0
 AsksKeeper words case commands = (asked : StudyAsked) × AskStudy words asked × IsCommanded asked case commands
+
+-- the words ask a study for something, and the case is refused
+abbrev pub RefusesCase : List (List ℕ) → Option (List ℕ) → Type 0
+RefusesCase words case = (asked : StudyAsked) × AskStudy words asked × IsUnstudied asked case
 
 -- a source that is read had a fault
 abbrev pub ReadRose : List (List ℕ) → Option (List ℕ) → Type 0 → Type 0 → Type 0

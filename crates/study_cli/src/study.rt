@@ -1,10 +1,10 @@
 //! The top call of studies.
-ghost use Rattle.std.specs.Prelude.{◌≡◌, ◌⊎◌, IfOk, OnOk, map, string_bytes, length};
+ghost use Rattle.std.specs.Prelude.{◌≡◌, ◌<◌, ◌⊎◌, IfOk, OnOk, map, string_bytes, length};
 ghost use Rattle.std.specs.List.{AllByRecursion};
 ghost use Rattle.std.specs.Io.KnownBytes.{IsAtEnd};
 ghost use Rattle.graph_io.specs.Causes.{Rose};
-ghost use Rattle.answers.specs.Runs.{Runs, Uses};
-ghost use Rattle.answers.specs.Ways.{EndsIn, over_values};
+ghost use Rattle.answers.specs.Runs.{Runs, Uses, IsConcluded};
+ghost use Rattle.answers.specs.Ways.{EndsIn, IfConcluded, over_values};
 ghost use Rattle.case_model.specs.CaseView.{content};
 ghost use Rattle.command_words.specs.Asked.{study_asked};
 ghost use Rattle.graph_cli.specs.Accepted.{IsTakenWithin};
@@ -16,6 +16,7 @@ ghost use Rattle.study_cli.specs.StudyOutcome.{
   study_call,
   study_outcome,
   IsStudied,
+  IsUnstudied,
   IsCommanded,
   IsOpened,
   IsCalledWithin,
@@ -23,6 +24,7 @@ ghost use Rattle.study_cli.specs.StudyOutcome.{
   ReadsCase,
   ReadsCommands,
   AsksKeeper,
+  RefusesCase,
   ReadRose,
   KeeperRose,
   MayEnd,
@@ -83,6 +85,8 @@ fn study_call<S: Source, T: Source, K: Keeper>(
     ensures commands_end { OnOk result (IsAtEnd (T.left commands.new)) }
     ensures keeper_kept { ¬ IsCommanded (study_asked call.now) (S.left case.old) (T.left commands.old) →
         keeper.new ≡ keeper.old }
+    ensures commands_asked { ¬ IsUnstudied (study_asked call.now) (S.left case.old) →
+        IfConcluded (T.calls commands.old < T.calls commands.new) result }
     ensures case_taken { IsTakenWithin S.left S.calls case.old case.new }
     ensures commands_taken { IsTakenWithin T.left T.calls commands.old commands.new }
     ensures turns { IsCalledWithin (study_asked call.now) (S.left case.old) (T.left commands.old)
@@ -121,6 +125,9 @@ fn answer<S: Source, T: Source, K: Keeper>(
         OnOk result (IsAtEnd (T.left commands.new)) }
     ensures keeper_kept { ¬ AsksKeeper (map string_bytes words.now) (S.left case.old) (T.left commands.old) →
         keeper.new ≡ keeper.old }
+    ensures commands_asked { ReadsCommands (map string_bytes words.now) (S.left case.old) →
+        ¬ RefusesCase (map string_bytes words.now) (S.left case.old) →
+        IfConcluded (T.calls commands.old < T.calls commands.new) result }
     ensures case_taken { IsTakenWithin S.left S.calls case.old case.new }
     ensures commands_taken { IsTakenWithin T.left T.calls commands.old commands.new }
     ensures turns { CallsWithin (map string_bytes words.now) (S.left case.old) (T.left commands.old)
@@ -135,7 +142,8 @@ fn answer<S: Source, T: Source, K: Keeper>(
 /// Makes a call of the program whose first word is `study`: all that it does. `words` are the words after the program's name,
 /// `case` is standard input, and `commands` is the file that `file_word` names. `keeper` keeps the looks. `out` gets the text
 /// of the answer, or one line that says why there is none. A source that isn't read stays as it was. `commands` is read only
-/// after a case that a study can take, and `keeper` is asked only after all commands are accepted. Of a source that isn't read
+/// after a case that a study can take, and then before anything is answered. `keeper` is asked only after all commands are
+/// accepted. Of a source that isn't read
 /// to its end, at most one byte more than it may have is taken. The calls of `keeper` are at most one more than the
 /// looks that the commands ask for.
 ///
@@ -171,6 +179,9 @@ pub fn run_study<S: Source, T: Source, K: Keeper, W: Sink>(
         commands.old commands.new result }
     ensures untouched { ¬ AsksKeeper (map string_bytes words.now) (S.left case.old) (T.left commands.old) →
         keeper.new ≡ keeper.old }
+    ensures commands_asked { ReadsCommands (map string_bytes words.now) (S.left case.old) →
+        ¬ RefusesCase (map string_bytes words.now) (S.left case.old) → IsConcluded result →
+        T.calls commands.old < T.calls commands.new }
     ensures case_taken { IsTakenWithin S.left S.calls case.old case.new }
     ensures commands_taken { IsTakenWithin T.left T.calls commands.old commands.new }
     ensures turns { CallsWithin (map string_bytes words.now) (S.left case.old) (T.left commands.old)

@@ -201,9 +201,24 @@ fn a_file_that_is_refused_is_a_read_fault(rt: HostRuntime) {
     assert!(rt; is_done(rt.alloc(), &row) == Some(true));
 }
 
-/// Whether commands that can't be opened are reported as a fault of the reading, and no look is kept.
+/// Whether commands that can't be opened are reported as a fault of the reading.
 #[test]
 fn commands_that_are_refused_are_a_read_fault(rt: HostRuntime) {
+    let row = Row {
+        words: &["study", "commands.txt"],
+        case: CASE,
+        file: None,
+        status: 6,
+        text: b"read fault\n",
+        asked: b"file commands.txt\n",
+        looks: 0,
+    };
+    assert!(rt; is_done(rt.alloc(), &row) == Some(true));
+}
+
+/// Whether such commands of a study with a store are reported so too, and no look is kept.
+#[test]
+fn no_look_of_commands_that_are_refused_is_kept(rt: HostRuntime) {
     let row = Row {
         words: &["study", "commands.txt", "--store", "looks.db"],
         case: CASE,

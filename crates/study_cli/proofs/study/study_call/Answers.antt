@@ -1,7 +1,9 @@
 use Rattle.std.proofs.Common.{refl, inr}
-use Rattle.answers.proofs.Stopping.{handed_on}
+use Rattle.answers.proofs.Stopping.{handed_on, concluded, unrefused_handed_on}
 use Rattle.case_model.specs.CaseView.{content}
+use Rattle.case_model.specs.Content.{Content}
 use Rattle.command_words.specs.Asked.{study_asked}
+use Rattle.study_cli.specs.StudyOutcome.{case_of}
 use Rattle.study_cli.proofs.AskedStudies.{case_is_staged}
 use Rattle.study_cli.proofs.StudyParts.{case_stops, bytes_stop, commands_stop, replies_end}
 use Rattle.study_cli.proofs.study.study_call.Goals as goal
@@ -73,3 +75,17 @@ returns-clause-turns g c =
       (c.in_ok-bytes.bytes, c.in_ok-bytes.ensures.ends.0, said),
       rw c.as_slice-2.ensures at c.study_answer.ensures.turns,
     )
+
+pub returns-in_err-accepted-clause-commands_asked : goal.returns-in_err-accepted-clause-commands_asked
+returns-in_err-accepted-clause-commands_asked g c = λ none. unrefused_handed_on {A = Content} _
+    (case_of (study_asked c.args.call.now) (g.S.Source.left c.args.case.now)) _ _ _ c.in_err-accepted.field-0.0 c.from_residual.ensures.1
+    (λ q h. none (q, h)) (rw c.study_needs.ensures at c.in_err-accepted.ensures.ends)
+
+pub returns-in_err-bytes-clause-commands_asked : goal.returns-in_err-bytes-clause-commands_asked
+returns-in_err-bytes-clause-commands_asked g c = λ none. concluded _ _ c.in_err-bytes.ensures.asked
+
+pub returns-in_err-list-clause-commands_asked : goal.returns-in_err-list-clause-commands_asked
+returns-in_err-list-clause-commands_asked g c = λ none. concluded _ _ c.in_ok-bytes.ensures.asked
+
+pub returns-clause-commands_asked : goal.returns-clause-commands_asked
+returns-clause-commands_asked g c = λ none. concluded _ _ c.in_ok-bytes.ensures.asked
