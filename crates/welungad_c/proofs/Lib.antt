@@ -1,3 +1,5 @@
+pub mod Cases
 pub mod Ended
+pub mod Parts
 pub mod Replies
 pub mod TopCall

@@ -1,10 +1,16 @@
-//! The top call for C: words, a case and a proof in, a text and a status out, all in the caller's memory.
+//! The calls for C, all in the caller's memory. One takes words, a case and a proof, and gives a text and a status. One reads doubles as
+//! fractions, and one decides a case with many rows of p-values.
 //!
 //! Proved:
 //! - `welungad_run`, `answers`: if the bytes are those of words, the call has the answer to them, the case and the proof
 //!   (`outcome` of `graph_cli`), or is out of memory. As much of the text as fits is put into the caller's memory, and its whole
 //!   length is reported. Status 7 comes exactly when the text doesn't fit.
 //! - `welungad_run`, `unread`: if they are not, the status is 10 and nothing is put, or the call is out of memory.
+//! - `welungad_read`: each double has the parts of its reading (`reading_of` of `typed_numbers`) in its four words, or four zeros
+//!   exactly if it has none. Or there aren't four words for each, the status is 11, and nothing is written.
+//! - `welungad_test_rows`: each row is tested (`AreRowsTested` of `trial_rows`) on the case that the text denotes, if that has no stages,
+//!   the lengths fit it, and its opening is defined. If not, or out of memory, nothing is written, and the status says why. A refused text
+//!   has the status that the program gives it.
 //! - `welungad_interface`.
 //!
 //! Not proved, as at any export: that the caller's C code keeps what `c/welungad.h` requires.
@@ -13,6 +19,8 @@
 ghost use Rattle.std.specs.Prelude.{◌≡◌, ℕ, List};
 ghost use Rattle.welungad_c.specs.Words.{AreWords};
 ghost use Rattle.welungad_c.specs.Calls.{Answers, HasNoWords};
+ghost use Rattle.welungad_c.specs.Readings.{Reads};
+ghost use Rattle.welungad_c.specs.RowCalls.{TestsRows};
 
 mod delivery;
 mod readings;
@@ -80,7 +88,9 @@ pub extern "C" fn welungad_run(
 ///
 /// Statuses: 0 written. 11: `out` doesn't have four words for each double; then it stays.
 #[unsafe(no_mangle)]
-pub extern "C" fn welungad_read(bits: &[u64], out: &mut [u64]) -> u8 {
+pub extern "C" fn welungad_read(bits: &[u64], out: &mut [u64]) -> u8
+    ensures { Reads bits.now out.old out.new result }
+{
     if out.len() % 4 != 0 || out.len() / 4 != bits.len() {
         return 11;
     }
@@ -104,6 +114,8 @@ pub extern "C" fn welungad_test_rows(
     p: &[u64],
     rejected: &mut [u8],
     statuses: &mut [u8],
-) -> u8 {
+) -> u8
+    ensures { TestsRows case.now p.now rejected.old rejected.new statuses.old statuses.new result }
+{
     test_text(alloc, case, p, rejected, statuses)
 }

@@ -1,30 +1,48 @@
 //! What doubles are read as, in the caller's memory.
-use fraction::Fraction;
+ghost use Rattle.std.specs.Prelude.{◌≡◌, ◌+◌, ◌*◌, ◌/◌, ◌%◌, ◌^◌, length, get_or};
+ghost use Rattle.typed_numbers.specs.Readings.{reading_of};
+ghost use Rattle.welungad_c.specs.Readings.{AreWordsOf, AreReadIn, HasFourWords};
+
 use typed_numbers::reading;
 
-/// Writes a number in two words, the low one first.
-fn write_number(number: u128, out: &mut [u64]) {
-    out[0] = (number % (1 << 64)) as u64;
-    out[1] = (number >> 64) as u64;
+/// Returns the low word of a number.
+fn low(number: u128) -> u64
+    ensures { result ≡ number % 2 ^ 64 }
+{
+    (number % (1 << 64)) as u64
 }
 
-/// Writes the parts of a fraction that is not below 0, or four zeros if there is none.
-fn write_fraction(fraction: Option<Fraction>, out: &mut [u64]) {
-    match fraction {
-        None => out.fill(0),
+/// Returns the high word of a number.
+fn high(number: u128) -> u64
+    ensures { result ≡ number / 2 ^ 64 }
+{
+    (number / (1 << 64)) as u64
+}
+
+/// Returns the words of what a double is read as: the numerator and the denominator, each with its low word first, or zeros if it has
+/// no reading.
+fn words_of(bits: u64) -> [u64; 4]
+    ensures { AreWordsOf (reading_of bits) (λ j. get_or result j 0) }
+{
+    match reading(bits) {
+        None => [0; 4],
         Some(fraction) => {
             let ratio = fraction.ratio();
-            write_number(ratio.num().unsigned_abs(), &mut out[..2]);
-            write_number(ratio.den().unsigned_abs(), &mut out[2..]);
+            let num = ratio.num().unsigned_abs();
+            let den = ratio.den().unsigned_abs();
+            [low(num), high(num), low(den), high(den)]
         }
     }
 }
 
 /// Writes what doubles are read as, four words for each.
-pub fn write_readings(bits: &[u64], out: &mut [u64]) {
+pub fn write_readings(bits: &[u64], out: &mut [u64])
+    requires { HasFourWords bits.now out.old }
+    ensures { AreReadIn bits.now out.new }
+{
     for i in 0..bits.len() {
-        let start = 4 * i;
+        let start = i * 4;
         let end = start + 4;
-        write_fraction(reading(bits[i]), &mut out[start..end]);
+        out[start..end].copy_from_slice(&words_of(bits[i]));
     }
 }

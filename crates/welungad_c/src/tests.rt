@@ -1,5 +1,5 @@
 //! Calls with ample memory.
-use crate::{welungad_interface, welungad_run};
+use crate::{welungad_interface, welungad_read, welungad_run, welungad_test_rows};
 use std::alloc::Global;
 use std::process::Abort;
 use std::test::Fail;
@@ -59,4 +59,57 @@ fn refuses_words(rt: HostRuntime) -> Result<(), Fail> {
     expect(&rt, alloc, b"", 20, (2, 14, b"usage: word 1\n"))?;
     expect(&rt, alloc, b"test", 20, (10, 0, b""))?;
     expect(&rt, alloc, b"t\xFFst\0", 20, (10, 0, b""))
+}
+
+/// Whether 0.025, 0.1 + 0.2, the least double and a NaN have their four words, and nothing is written if there are others.
+#[test]
+fn reads_doubles(rt: HostRuntime) -> Result<(), Fail> {
+    let bits = [
+        0x3f99_9999_9999_999a,
+        0x3fd3_3333_3333_3334,
+        1,
+        0x7ff8_0000_0000_0000,
+    ];
+    let mut out = [7u64; 16];
+    assert!(rt; welungad_read(&bits, &mut out) == 0);
+    assert!(rt; out[..8] == [1, 0, 40, 0, 7500000000000001, 0, 25000000000000000, 0]);
+    // 10^30 is 54210108624 * 2^64 + 5076944270305263616
+    assert!(rt; out[8..] == [1, 0, 5076944270305263616, 54210108624, 0, 0, 0, 0]);
+    assert!(rt; welungad_read(&bits[..3], &mut out) == 11);
+    assert!(rt; welungad_read(&bits[..3], &mut out[..11]) == 11);
+    assert!(rt; out[0] == 1);
+    Ok(())
+}
+
+/// Decides `CASE` with 0.025 for H1 and 0.05 for H2, with 0.06 and 0, and with 2 and 0.
+fn decide_rows(alloc: Global, case: &[u8], marks: &mut [u8], statuses: &mut [u8]) -> u8 {
+    let p = [
+        0x3f99_9999_9999_999a,
+        0x3fa9_9999_9999_999a,
+        0x3fae_b851_eb85_1eb8,
+        0,
+        0x4000_0000_0000_0000,
+        0,
+    ];
+    welungad_test_rows(alloc, case, &p, marks, statuses)
+}
+
+/// Whether rows are decided, one with a double that has no reading is not, and nothing is written if the case is refused, has stages, or
+/// the lengths don't fit.
+#[test]
+fn decides_rows(rt: HostRuntime) -> Result<(), Fail> {
+    let alloc = rt.alloc();
+    let mut marks = [9u8; 6];
+    let mut statuses = [9u8; 3];
+    let staged = b"alpha 0.05\nhypotheses A B\nweights 1 0\nstages 1\nspend A 1\nspend B 1\n";
+    assert!(rt; decide_rows(alloc, b"", &mut marks, &mut statuses) == 3);
+    assert!(rt; decide_rows(alloc, staged, &mut marks, &mut statuses) == 3);
+    assert!(rt; decide_rows(alloc, CASE, &mut marks, &mut statuses[..2]) == 11);
+    assert!(rt; decide_rows(alloc, CASE, &mut marks[..4], &mut statuses) == 11);
+    assert!(rt; marks == [9; 6]);
+    assert!(rt; statuses == [9; 3]);
+    assert!(rt; decide_rows(alloc, CASE, &mut marks, &mut statuses) == 0);
+    assert!(rt; marks == [1, 1, 0, 1, 0, 0]);
+    assert!(rt; statuses == [0, 0, 3]);
+    Ok(())
 }
