@@ -22,7 +22,7 @@ from reports import NotAReport, read_test
 COLOURS = ["#1f4e9e", "#b3541e", "#2e7d32", "#7b1fa2", "#00838f", "#8d6e00", "#ad1457", "#455a64"]
 RADIUS, GAP, HIGH = 40, 200, 215
 POWERS = ["", "ε", "ε²", "ε³", "ε⁴"]
-LONGEST = 40
+LONGEST = 26  # of a longer name a picture has the two ends, since circles beside each other have no room for more
 
 
 def decimal(x):
@@ -37,7 +37,7 @@ def short(x):
 
 def shown(name):
     """A name in a picture: of a long one its beginning and its end."""
-    return name if len(name) <= LONGEST else f"{name[:LONGEST - 16]}…{name[-15:]}"
+    return name if len(name) <= LONGEST else f"{name[:LONGEST - 12]}…{name[-11:]}"
 
 
 def edge_text(polynomial):

@@ -58,7 +58,8 @@ thead th { border-top-width: 1px; }
 tr > :first-child { border-left-width: 1px; }
 thead th { background: #eef1f4; vertical-align: bottom; }
 tbody th { background: #fff; background-clip: padding-box; position: sticky; left: 0; }
-th { min-width: 5rem; max-width: 20rem; overflow-wrap: anywhere; }
+th { min-width: 6rem; max-width: 20rem; overflow-wrap: anywhere; }
+tr > th:first-child { min-width: 10rem; }
 h1, .answer, p, td, figcaption { overflow-wrap: break-word; }
 tr.rejected > th { background: #cfe3cf; }
 .decimal { color: #444; white-space: nowrap; }

@@ -118,17 +118,18 @@ class Pages(unittest.TestCase):
     def test_files(self):
         graph = pair()
         with tempfile.TemporaryDirectory() as room:
-            path = os.path.join(room, "page.html")
+            path, pipe = os.path.join(room, "page.html"), os.path.join(room, "pipe")
+            os.mkfifo(pipe)
             page = graph.report([0.01, 0.02], path)
             with open(path, encoding="utf-8") as file:
                 self.assertEqual(file.read(), page.html)
-            for wrong, cause in [(os.path.join(room, "no", "page.html"), "No such file or directory"), (room, "it is not a file"), ("/dev/null", "it is not a file"),
+            for wrong, cause in [(os.path.join(room, "no", "page.html"), "No such file or directory"), (room, "it is not a file"), (pipe, "it is not a file"),
                                  (os.path.join(path, "x"), "Not a directory")]:
                 with self.assertRaisesRegex(OSError, f"can't be written: {cause}$"):
                     graph.report([0.01, 0.02], wrong)
             with self.assertRaises(welungad.Refused):
                 graph.report([0.01, 2], path)
-            self.assertEqual(os.listdir(room), ["page.html"])
+            self.assertEqual(sorted(os.listdir(room)), ["page.html", "pipe"])
             with open(path, encoding="utf-8") as file:
                 self.assertEqual(file.read(), page.html)
 

@@ -70,33 +70,7 @@ rejected_line <- function(names, rejected) paste(c("rejected", names[names %in% 
 
 # ---- test
 
-# The lines are written again from the parts that are read, and have to be the same.
-read_test <- function(lines, names) {
-  n <- length(names)
-  if (length(lines) != 2L * n + 3L) return(NULL)
-  at <- seq_len(n)
-  tested <- lines[at + 1L]
-  count <- sum(startsWith(tested, "step "))
-  steps <- seq_len(count)
-  # the words of "step N NAME p P weight W" without N, and of "kept NAME p P weight W"
-  words <- unlist(strsplit(tested, " ", fixed = TRUE))
-  if (length(words) != 6L * n + count) return(NULL)
-  if (count) words <- words[-(7L * steps - 5L)]
-  dim(words) <- c(6L, n)
-  listed <- words[2, ]
-  adjusted <- substr(lines[n + 2L + at], nchar(names) + 11L, 1000L)
-  rejected <- match(names, listed) <= count
-  alpha <- substr(lines[1], 7L, 1000L)
-  begins <- c(if (count) paste("step", steps), rep("kept", n - count))
-  written <- c(paste("alpha", alpha), paste(begins, listed, "p", words[4, ], "weight", words[6, ]), rejected_line(names, listed[steps]),
-    paste("adjusted", names, adjusted), "end")
-  if (anyNA(rejected) || !identical(lines, written)) return(NULL)
-  reached <- adjusted != "1 not reached"
-  adjusted[!reached] <- "1"
-  at <- match(names, listed)
-  list(alpha = alpha, order = match(listed[steps], names), rejected = rejected, p = words[4, at], weight = words[6, at], adjusted = adjusted,
-    reached = reached)
-}
+read_test <- function(lines, names) .Call(C_welungad_read_test, lines, names)
 
 # ---- all sets
 

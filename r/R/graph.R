@@ -160,6 +160,7 @@ case_of <- function(graph, p, alpha) {
 level_of <- function(alpha) level_text_of(exact_vector(alpha, "alpha"))
 
 level_text_of <- function(level) {
+  if (identical(level, level_at_first)) return(level_at_first$read)
   if (length(level$read) != 1) stop_at("alpha", "one level is needed")
   number_texts(level, "alpha")
 }

@@ -157,7 +157,9 @@ static void decimal_text(fraction x, char *text) {
   int places = 0;
   wide scale = 1;
   for (; scale % x.d != 0 && places <= MOST_PLACES; places++) scale *= 10;
-  int count = digits_of(x.n * (scale / x.d), digits), exponent = count - 1 - places;
+  wide n = x.n * (scale / x.d);
+  for (; n % 10 == 0 && places > 0; places--) n /= 10;
+  int count = digits_of(n, digits), exponent = count - 1 - places;
   if (exponent >= -4) {
     snprintf(text, ROOM, "0.%.*s%s", -1 - exponent, "000", digits);
   } else {

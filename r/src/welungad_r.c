@@ -7,6 +7,7 @@
 #include <limits.h>
 #include <string.h>
 #include "reading.h"
+#include "report.h"
 
 #ifdef WELUNGAD_LIBRARY
 #include <welungad.h>
@@ -147,6 +148,7 @@ static const R_CallMethodDef calls[] = {
   {"welungad_fractions", (DL_FUNC)&welungad_fractions, 2},
   {"welungad_readings", (DL_FUNC)&welungad_readings, 2},
   {"welungad_short_doubles", (DL_FUNC)&welungad_short_doubles, 1},
+  {"welungad_read_test", (DL_FUNC)&welungad_read_test, 2},
   {NULL, NULL, 0},
 };
 

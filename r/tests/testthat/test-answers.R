@@ -85,3 +85,31 @@ test_that("the file of the proof is the word that names it", {
     expect_equal(welungad_run(c("check", "--form", "text"), proof$case, proof$evidence)$text, "usage: word 4\n")
   })
 })
+
+test_that("a report of test is read word by word", {
+  names <- c("H1", "H2", "H10")
+  lines <- c("alpha 1/40", "step 1 H2 p 1/200 weight 1/3", "step 2 H10 p 1/100 weight 1/2", "kept H1 p 1/50 weight 0", "rejected H2 H10",
+    "adjusted H1 1 not reached", "adjusted H2 3/200", "adjusted H10 1", "end")
+  read <- function(lines) welungad:::read_answer("test", 0L, lines, list(graph = list(names = names)))
+  expect_equal(read(lines), list(alpha = "1/40", order = c(2L, 3L), rejected = c(FALSE, TRUE, TRUE), p = c("1/50", "1/200", "1/100"),
+    weight = c("0", "1/3", "1/2"), adjusted = c("1", "3/200", "1"), reached = c(FALSE, TRUE, TRUE)))
+  numbers <- list(2, c(5, 7), c(5, 7), c(4, 6), integer(), integer(), 3, 3, integer())
+  for (k in seq_along(lines)) {
+    words <- strsplit(lines[k], " ")[[1]]
+    expect_null(read(lines[-k]))
+    expect_null(read(lines[c(seq_len(k), k:length(lines))]))
+    expect_null(read(replace(lines, k, paste0(lines[k], " "))))
+    expect_null(read(replace(lines, k, "")))
+    for (j in seq_along(words)) {
+      for (new in c("x", "H1", "", "2")) {
+        changed <- replace(lines, k, paste(replace(words, j, new), collapse = " "))
+        if (identical(changed, lines)) next
+        if (nzchar(new) && j %in% numbers[[k]]) expect_false(is.null(read(changed))) else expect_null(read(changed), info = changed[k])
+      }
+    }
+  }
+  expect_null(read(lines[c(1, 3, 2, 4:9)]))
+  expect_null(read(lines[c(1, 2, 4, 3, 5:9)]))
+  expect_null(read(sub("rejected H2 H10", "rejected H10 H2", lines)))
+  expect_null(read(sub("kept H1", "kept H2", lines)))
+})

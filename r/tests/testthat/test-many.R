@@ -22,10 +22,14 @@ test_that("rows that have no decision are named", {
     P <- rbind(c(0.1, 0.2), c(0.1, 1.5), c(NA, 0.2))
     expect_error(graph_test_many(pair(), P), "P: row 2, column 2 is 1.5, which is not a p-value", fixed = TRUE)
     expect_error(graph_test_many(pair(), P[-2, ]), "P: row 2, column 1 is NA", fixed = TRUE)
+    expect_error(graph_test_many(pair(), rbind(0:1, c(0.5, NaN))), "P: row 2, column 2 is NaN, which is not a p-value", fixed = TRUE)
+    expect_error(graph_test_many(pair(), rbind(0:1, c(-1e-300, 1))), "P: row 2, column 1 is -1e-300, which is not a p-value", fixed = TRUE)
     expect_error(graph_test_many(pair(), c(0.1, 0.2)), "P: a matrix is needed")
     expect_error(graph_test_many(pair(), matrix(0.1, 2, 3)), "P: 3 columns given for 2 hypotheses")
     expect_error(graph_test_many(pair(), matrix("0.1 0.2", 1, 2)), "P: row 1, column 1 is 0.1 0.2")
-    expect_message(graph_test_many(pair(), matrix(c(1e-300, 0.5), 1)), "of row 1 was rounded up")
+    expect_message(graph_test_many(pair(), matrix(c(1e-300, 0.5), 1)), "P: 1 p-value was rounded up to a multiple of 10^-30: row 1", fixed = TRUE)
+    small <- cbind(rep(c(0.5, 1e-31), 8), 1e-40)
+    expect_message(graph_test_many(pair(), small), "P: 24 p-values were rounded up to a multiple of 10^-30: row 1, 2, 3, 4, 5, 6, 7, 8, 9, 10, and 6 more", fixed = TRUE)
     wide <- graph_create(c(1, 0, 0, 0), rbind(
       c("0", "1/1000000000000000000", "0", "0"), c("0", "0", "1/999999999999999999", "0"), c("0", "0", "0", "1/999999999999999997"), "0"
     ))
@@ -33,4 +37,30 @@ test_that("rows that have no decision are named", {
     expect_equal(many[1, ], c(H1 = FALSE, H2 = FALSE, H3 = FALSE, H4 = FALSE))
     expect_true(all(is.na(many[2, ])))
   })
+})
+
+test_that("a block of doubles is decided as its rows are, and by few calls", {
+  skip_if_not(welungad:::has_numbers(), "the library with the calls on numbers is not found")
+  set.seed(7)
+  graph <- graph_create(c("low dose" = 1 / 2, B = 1 / 2, C = 0), rbind(c(0, 1 / 2, 1 / 2), c(1 / 2, 0, 1 / 2), 0))
+  P <- rbind(matrix(runif(3 * 1100)^4, ncol = 3), c(0.0125, 0.025, 1), c(0.1 + 0.2, 0, 1), 0:2 / 3)
+  many <- graph_test_many(graph, P, alpha = 0.05)
+  texts <- welungad:::decided_texts(graph, "1/20", P)
+  expect_identical(unname(many), texts$rejected)
+  expect_true(all(texts$statuses == 0L) && any(many) && !all(many))
+  expect_identical(graph_test_many(graph, matrix(0:1, 2, 3)), graph_test_many(graph, matrix(as.character(0:1), 2, 3)))
+  expect_identical(graph_test_many(graph, data.frame(C = 0:1, B = c(0.01, 0.02), "low dose" = 1, check.names = FALSE))[, "B"], c(TRUE, FALSE))
+})
+
+test_that("a row is too wide for the call of a block only by its decision", {
+  skip_if_not(welungad:::has_numbers(), "the library with the calls on numbers is not found")
+  near <- graph_create(c("999999999999999967/999999999999999989", "0"), rbind(0:1, 1:0))
+  P <- matrix(c(1.2345678901234567e-14, 0.9), 1)
+  expect_equal(as.vector(graph_test_many(near, P)), c(TRUE, FALSE))
+  expect_warning(texts <- graph_test_many(near, matrix(as_exact(P)$read, 1)), "P: 1 row is NA")
+  expect_true(all(is.na(texts)))
+})
+
+test_that("a case that is refused is refused by its place", {
+  each_way(function(way) expect_equal(refusal_of(graph_test_many(pair(), matrix(0.1, 2, 2), alpha = 0.00001))$where, refusal_of(graph_test(pair(), c(0.1, 0.1), alpha = 0.00001))$where))
 })

@@ -86,10 +86,12 @@ test_that("a file has the whole page, or stays as it was", {
     x <- graph_test(doses(), c(0.01, 0.02))
     for (wrong in list(1, NA_character_, "", c("a", "b"), NULL)) expect_error(graph_report(x, wrong), "file: one text is needed")
     folder <- dirname(file)
+    pipe <- tempfile("pipe-", folder)
+    system2("mkfifo", shQuote(pipe))
     before <- list.files(folder, all.files = TRUE)
     expect_error(graph_report(x, file.path(folder, "no", "page.html")), "there is no page: .*no/page.html can't be written: No such file or directory$")
     expect_error(graph_report(x, folder), "can't be written: it is not a file$")
-    expect_error(graph_report(x, "/dev/null"), "can't be written: it is not a file$")
+    expect_error(graph_report(x, pipe), "can't be written: it is not a file$")
     expect_equal(list.files(folder, all.files = TRUE), before)
     writeLines("old", file)
     changed <- x
