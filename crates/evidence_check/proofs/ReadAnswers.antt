@@ -1,7 +1,9 @@
 -- Lines are read by forms, one after the other.
-use Rattle.std.proofs.Common.{◌≡◌, ◌⊎◌, inl, inr, refl, sym, ap, subst, ◌∙◌, ℕ, ◌<◌, ◌≤◌, List, [], ◌∷◌, ◌++◌, ◌+◌, drop, length, get_or, zero-add, Some, None, Result, Ok, Err}
+use Rattle.std.proofs.Common.{◌≡◌, ◌⊎◌, inl, inr, refl, sym, ap, subst, ◌∙◌, ℕ, ◌<◌, ◌≤◌, List, [], ◌∷◌, ◌++◌, ◌+◌, drop, length, get_or, zero-add, Some, None, Result, Ok, Err, Bool, true, false, ◌-◌, ◌≢◌, if◌then◌else◌, arith}
+use Rattle.std.specs.Prelude.{◌==◌}
 use Rattle.std.specs.Result.{IsErrAnd}
 use Rattle.std.specs.List.{All, slice_get, range_with_len}
+use Rattle.std.proofs.lemmas.Bool.Decides.{Decides-eqb}
 use Rattle.std.proofs.lemmas.List.{length-map, get_or-map, drop_more}
 use Rattle.std.proofs.lemmas.List.FromFn.{length-range_with_len, get_or-range_with_len}
 use Rattle.std.proofs.lemmas.List.Elements.{All-get_or}
@@ -28,10 +30,12 @@ use Rattle.evidence_check.specs.declared.fault.ProofText.TheVariants as faults
 use Rattle.evidence_check.specs.declared.quantity.Quantity.TheVariants.{Flow, Exit}
 use Rattle.evidence_check.specs.EvidenceParts.{StepParts, KeepParts}
 use Rattle.evidence_check.specs.DocumentLines.{Words, Frame, kinds, keep_line}
-use Rattle.evidence_check.specs.Document.{Lines, numbers, named, step, keep}
+use Rattle.evidence_check.specs.Document.{Lines, numbers, named, step, keep, kept}
+use Rattle.evidence_check.specs.Evidence.{others}
 use Rattle.evidence_check.specs.EvidenceView.{hypotheses_of}
 use Rattle.evidence_check.specs.NumberReading.{case_frame}
 use Rattle.evidence_check.specs.ReadView.{proof_fault, Reads}
+use Rattle.evidence_check.proofs.FitAnswers.{others_from}
 use Rattle.evidence_check.proofs.Hypotheses.{as_many}
 
 -- ---- answers of the reader, and of forms
@@ -206,12 +210,34 @@ pub step_at : {F : Type 0} (steps : List (ProofStep F)) (e : ℕ) (s : ProofStep
 step_at steps e s p = get_or-map (λ s. s.hypothesis) steps e s 0 p
 
 -- the hypotheses from a step on
-pub here : {F : Type 0} (steps : List (ProofStep F)) (e : ℕ) (s : ProofStep F) → e < length steps → s ≡ get_or steps e s
-    → drop e (hypotheses_of steps) ≡ s.hypothesis ∷ drop (e + 1) (hypotheses_of steps)
-here steps e s p is = drop_more (hypotheses_of steps) e 0 (subst (λ n. e < n) (as_many steps) p)
-    ∙ ap (λ j. j ∷ drop (e + 1) (hypotheses_of steps)) (step_at steps e s p ∙ ap (λ s. s.hypothesis) (sym is))
+pub here : {F : Type 0} (steps : List (ProofStep F)) (e : ℕ) (s : ProofStep F) → e < length steps
+    → drop e (hypotheses_of steps) ≡ (get_or steps e s).hypothesis ∷ drop (e + 1) (hypotheses_of steps)
+here steps e s p = drop_more (hypotheses_of steps) e 0 (subst (λ n. e < n) (as_many steps) p)
+    ∙ ap (λ j. j ∷ drop (e + 1) (hypotheses_of steps)) (step_at steps e s p)
 
 -- the components from one on
 pub component_here : (m c : ℕ) → c < m → drop c (range_with_len 0 m) ≡ c ∷ drop (c + 1) (range_with_len 0 m)
 component_here m c p = drop_more (range_with_len 0 m) c 0 (subst (λ n. c < n) (sym (length-range_with_len 0 m)) p)
     ∙ ap (λ k. k ∷ drop (c + 1) (range_with_len 0 m)) (get_or-range_with_len 0 m c 0 p ∙ zero-add c)
+
+-- all others, from 0 on
+pub others_start : (m : ℕ) (js : List ℕ) → others_from js 0 (m - 0) ≡ others m js
+unfolding others
+others_start m js = ap (others_from js 0) same
+  where
+    same : m - 0 ≡ m
+    same = omega arith
+
+pub none_more : (m k : ℕ) (js : List ℕ) → k ≡ m → others_from js k (m - k) ≡ []
+none_more m k js e = ap (others_from js k) gone
+  where
+    gone : m - k ≡ 0
+    gone = omega arith
+
+-- no hypothesis is kept in another version
+pub kept_none : (T : Frame) (v : ℕ) (js : List ℕ) → v ≢ 2 → kept T v js ≡ []
+kept_none T v js n = by (v == 2) refl
+  where
+    by : (b : Bool) → (v == 2) ≡ b → (if b then T.others js else []) ≡ []
+    by true e = absurd (n ((Decides-eqb v 2).0 e))
+    by false e = refl

@@ -53,6 +53,10 @@ module _ (T : Frame) (start : Left) where
 
 -- ---- a text
 
+-- whether a line is left
+abbrev pub More : Result (Unit {0}) ProofText → List Row → Type 0
+More r left = ◌≡◌ {A = Result (Unit {0}) ProofText} r (told_as proof_fault (all_read {A = Unit {0}} kinds tt (words_seen left)))
+
 abbrev whole : Result (Said × List (Seen Words)) (FaultAt ProofKind) → Result Said (FaultAt ProofKind)
 whole r = and_then {A = Said × List (Seen Words)} r (λ p. all_read kinds p.0 p.1)
 
@@ -68,19 +72,19 @@ module _ (T : Frame) (bytes : List ℕ) (start : Left) (rows : start.rows ≡ ro
     here : evidence_reading T bytes ≡ all_read kinds said (words_seen left)
     here = reading_is ∙ ap {A = Result (Said × List (Seen Words)) (FaultAt ProofKind)} whole all
 
-    pub more_fails : (fault : ProofText) → Err fault ≡ told_as proof_fault (all_read kinds tt (words_seen left)) → Fails (evidence_reading T bytes) fault
+    pub more_fails : (fault : ProofText) → More (Err fault) left → Fails (evidence_reading T bytes) fault
     more_fails fault e = by left here e
       where
-        by : (left : List Row) → evidence_reading T bytes ≡ all_read kinds said (words_seen left) → Err fault ≡ told_as proof_fault (all_read kinds tt (words_seen left))
+        by : (left : List Row) → evidence_reading T bytes ≡ all_read kinds said (words_seen left) → More (Err fault) left
             → Fails (evidence_reading T bytes) fault
         by [] h e = absurd (cc e)
         by (row ∷ rest) h e = inr (ap (told_as proof_fault) h
             ∙ ap Err (sym (same_fault {A = Unit {0}} fault (proof_fault (record { line = row.number; kind = kinds.unexpected })) e)))
 
-    pub text_read : Ok tt ≡ told_as proof_fault (all_read kinds tt (words_seen left)) → told_as proof_fault (evidence_reading T bytes) ≡ Ok said
+    pub text_read : More (Ok tt) left → told_as proof_fault (evidence_reading T bytes) ≡ Ok said
     text_read e = by left here e
       where
-        by : (left : List Row) → evidence_reading T bytes ≡ all_read kinds said (words_seen left) → Ok tt ≡ told_as proof_fault (all_read kinds tt (words_seen left))
+        by : (left : List Row) → evidence_reading T bytes ≡ all_read kinds said (words_seen left) → More (Ok tt) left
             → told_as proof_fault (evidence_reading T bytes) ≡ Ok said
         by [] h e = ap (told_as proof_fault) h
         by (row ∷ rest) h e = absurd (cc e)

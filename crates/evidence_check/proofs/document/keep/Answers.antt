@@ -38,9 +38,9 @@ returns-in_err-exits-clause-said g c =
     handed _ c.from_residual-in_err-exits.result c.in_err-exits.field-0.0 _ c.from_residual-in_err-exits.ensures.1
     (keep_exits_fail T js c.args.hypothesis c.args.lines.now c.keep_line.new.lines c.in_ok-keep_line.ensures.said c.keep_line.ensures.end c.in_err-exits.field-0.0 c.in_err-exits.ensures.said)
 
-pub returns-in_ok-exits-clause-said : goal.returns-in_ok-exits-clause-said
-returns-in_ok-exits-clause-said g c =
+pub returns-clause-said : goal.returns-clause-said
+returns-clause-said g c =
     let T = (case_frame g.F.CaseNumber.numbers (content c.args.case.now)) in
     let js = hypotheses_of c.args.steps.now in
     keep_read T js c.args.hypothesis c.args.lines.now c.keep_line.new.lines c.in_ok-keep_line.ensures.said c.keep_line.ensures.end c.lists.new.lines
-    (map (map g.F.Number.parts) c.in_ok-exits.field-0) c.in_ok-exits.ensures.said c.lists.ensures.end
+    (map (map g.F.Number.parts) c.in_ok-exits.exits) c.in_ok-exits.ensures.said c.lists.ensures.end

@@ -22,7 +22,16 @@ use Rattle.evidence_check.specs.ReadView.{Reads}
 use Rattle.evidence_check.proofs.Hypotheses.{as_many, same_hypotheses}
 use Rattle.evidence_check.proofs.ReadAnswers.{Fails, Gives, handed, reads, line_given, line_fails, line_missing, then_fails, then_reads, next_fails, next_reads, none_left}
 use Rattle.evidence_check.proofs.ReadAnswers.{first_fails, items_end, item_fails, item_reads, found_one, found_other, found_none, found_bad, gives_left, frame_name, known_at, step_at}
+use Rattle.field_core.specs.Answers.{told_as}
+use Rattle.text_lines.specs.Forms.{words_seen}
+use Rattle.evidence_check.specs.ReadView.{proof_fault}
+use Rattle.evidence_check.proofs.ReadAnswers.{kept_none}
 use Rattle.evidence_check.proofs.document.kept.Goals as goal
 
-pub returns-then : goal.returns-then
-returns-then g c = ?
+pub returns-else-version-eq2-clause-said : goal.returns-else-version-eq2-clause-said
+returns-else-version-eq2-clause-said g c =
+    let T = (case_frame g.F.CaseNumber.numbers (content c.args.case.now)) in
+    let js = hypotheses_of c.args.steps.now in
+    ap (told_as proof_fault) (ap (λ ks. reads (each_of (keep T js) ks) c.args.lines.now) (kept_none T c.args.version js c.if-version-eq2.false)
+    ∙ read_say kinds [] (words_seen c.args.lines.now.rows) c.args.lines.now.end)
+    ∙ ap (λ xs. Ok (map (keep_parts g.F.Number.parts) xs, words_seen c.args.lines.now.rows)) (sym c.new.ensures)

@@ -25,9 +25,6 @@ use Rattle.evidence_check.proofs.ReadAnswers.{first_fails, items_end, item_fails
 use Rattle.evidence_check.proofs.ReadAnswers.{component_here}
 use Rattle.evidence_check.proofs.document.lists.Goals as goal
 
-pub numbers-requires-clause-c : goal.numbers-requires-clause-c
-numbers-requires-clause-c g c = ?
-
 pub returns-in_err-numbers-clause-said : goal.returns-in_err-numbers-clause-said
 returns-in_err-numbers-clause-said g c =
     let T = (case_frame g.F.CaseNumber.numbers (content c.args.case.now)) in

@@ -4,7 +4,7 @@ use Rattle.std.proofs.lemmas.List.{map-append, drop_more, drop_all, length-map}
 use Rattle.std.proofs.lemmas.List.Elements.{All-push, All-nil}
 use Rattle.std.proofs.lemmas.List.FromFn.{length-range_with_len, get_or-range_with_len}
 use Rattle.std.proofs.lemmas.Simd.{map-map}
-use Rattle.text_lines.specs.Forms.{Line, Then, Say, Many}
+use Rattle.text_lines.specs.Forms.{Line, Then, Say, Many, words_seen}
 use Rattle.text_lines.specs.Kinds.{each_after, each_of, maybe}
 use Rattle.text_lines.specs.View.{row}
 use Rattle.text_lines.specs.Left.{Left, behind_first}
@@ -24,5 +24,9 @@ use Rattle.evidence_check.proofs.ReadAnswers.{Fails, Gives, handed, reads, line_
 use Rattle.evidence_check.proofs.ReadAnswers.{first_fails, items_end, item_fails, item_reads, found_one, found_other, found_none, found_bad, gives_left, frame_name, known_at, step_at}
 use Rattle.evidence_check.proofs.document.next_step.Goals as goal
 
-pub returns-in_default-line-clause-said : goal.returns-in_default-line-clause-said
-returns-in_default-line-clause-said c = λ T h. found_none (step_line T) c.args.lines.now (no_row c.args.lines.now.rows c.in_default-line.ensures)
+pub returns-in-Ok-Some-clause-said : goal.returns-in-Ok-Some-clause-said
+returns-in-Ok-Some-clause-said c = λ T h.
+    found_one (step_line T) c.args.lines.now (row c.in-Some.line) c.skip.new.self c.in-Ok-Some.hypothesis
+    (first_row c.args.lines.now.rows (row c.in-Some.line) c.in-Some.ensures ∙ ap (λ rs. row c.in-Some.line ∷ rs) (sym c.skip.ensures.rows))
+    (sym (c.in-Ok-Some.ensures.said T h) ∙ ap Ok c.in-Ok-Some.field-0-is)
+    ∙ ap (λ j. Ok (Some j, words_seen c.skip.new.self.rows)) (sym c.in-Ok-Some.hypothesis-is)

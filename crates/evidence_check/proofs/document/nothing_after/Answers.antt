@@ -22,7 +22,10 @@ use Rattle.evidence_check.specs.ReadView.{Reads}
 use Rattle.evidence_check.proofs.Hypotheses.{as_many, same_hypotheses}
 use Rattle.evidence_check.proofs.ReadAnswers.{Fails, Gives, handed, reads, line_given, line_fails, line_missing, then_fails, then_reads, next_fails, next_reads, none_left}
 use Rattle.evidence_check.proofs.ReadAnswers.{first_fails, items_end, item_fails, item_reads, found_one, found_other, found_none, found_bad, gives_left, frame_name, known_at, step_at}
+use Rattle.field_core.specs.Answers.{told_as}
+use Rattle.text_lines.specs.Forms.{words_seen, all_read}
+use Rattle.evidence_check.specs.ReadView.{proof_fault}
 use Rattle.evidence_check.proofs.document.nothing_after.Goals as goal
 
 pub returns-in-Some : goal.returns-in-Some
-returns-in-Some c = ?
+returns-in-Some c = ap (λ rs. told_as proof_fault (all_read kinds tt (words_seen rs))) (sym (first_row c.args.lines.now.rows (row c.in-Some.line) c.in-Some.ensures))

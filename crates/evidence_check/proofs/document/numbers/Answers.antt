@@ -33,9 +33,9 @@ returns-in_err-number-clause-said g c =
     let T = (case_frame g.F.CaseNumber.numbers (content c.args.case.now)) in
     let js = hypotheses_of c.args.steps.now in
     handed _ c.from_residual.result c.in_err-number.field-0.0 _ c.from_residual.ensures.1
-    (next_fails (λ j. Line (number_line T c.args.quantity c.args.c j)) (map g.F.Number.parts c.loop-e.numbers) c.index-steps-e.result.hypothesis (drop (c.loop-e.e + 1) js)
+    (next_fails (λ j. Line (number_line T c.args.quantity c.args.c j)) (map g.F.Number.parts c.loop-e.numbers) (get_or c.args.steps.now c.loop-e.e c.index-steps-e.result).hypothesis (drop (c.loop-e.e + 1) js)
     c.loop-e.lines _ (c.loop-e.invariant.so_far ∙ ap (λ hs. reads (each_after (λ j. Line (number_line T c.args.quantity c.args.c j)) (map g.F.Number.parts c.loop-e.numbers) hs) c.loop-e.lines)
-    (here c.args.steps.now c.loop-e.e c.index-steps-e.result c.loop-e-test.true c.index-steps-e.is)) c.in_err-number.field-0.0 c.in_err-number.ensures.said)
+    (here c.args.steps.now c.loop-e.e c.index-steps-e.result c.loop-e-test.true)) c.in_err-number.field-0.0 c.in_err-number.ensures.said)
 
 pub loop-e-preserved : goal.loop-e-preserved
 loop-e-preserved g c =
@@ -43,9 +43,9 @@ loop-e-preserved g c =
     let js = hypotheses_of c.args.steps.now in
     record {
       end = c.number.ensures.end ∙ c.loop-e.invariant.end;
-      so_far = next_reads (λ j. Line (number_line T c.args.quantity c.args.c j)) (map g.F.Number.parts c.loop-e.numbers) c.index-steps-e.result.hypothesis (drop (c.loop-e.e + 1) js)
+      so_far = next_reads (λ j. Line (number_line T c.args.quantity c.args.c j)) (map g.F.Number.parts c.loop-e.numbers) (get_or c.args.steps.now c.loop-e.e c.index-steps-e.result).hypothesis (drop (c.loop-e.e + 1) js)
           c.loop-e.lines _ (c.loop-e.invariant.so_far ∙ ap (λ hs. reads (each_after (λ j. Line (number_line T c.args.quantity c.args.c j)) (map g.F.Number.parts c.loop-e.numbers) hs) c.loop-e.lines)
-          (here c.args.steps.now c.loop-e.e c.index-steps-e.result c.loop-e-test.true c.index-steps-e.is)) (g.F.Number.parts c.in_ok-number.field-0) c.number.new.lines
+          (here c.args.steps.now c.loop-e.e c.index-steps-e.result c.loop-e-test.true)) (g.F.Number.parts c.in_ok-number.field-0) c.number.new.lines
           c.in_ok-number.ensures.said c.number.ensures.end
           ∙ ap (λ xs. reads (each_after (λ j. Line (number_line T c.args.quantity c.args.c j)) xs (drop (c.loop-e.e + 1) js)) c.number.new.lines)
           (sym (ap (map g.F.Number.parts) c.in_ok-push.ensures.pushed ∙ map-append g.F.Number.parts c.loop-e.numbers (c.in_ok-number.field-0 ∷ [])));

@@ -33,14 +33,14 @@ returns-in_err-flows-clause-said g c =
     (then_fails (numbers T Flow (named (map (step_parts g.F.Number.parts) c.args.earlier.now))) (λ flows. Say (record { hypothesis = c.args.hypothesis; flows = flows })) c.args.lines.now
     c.in_err-flows.field-0.0 (subst (λ hs. Fails (reads (numbers T Flow hs) c.args.lines.now) c.in_err-flows.field-0.0) js c.in_err-flows.ensures.said))
 
-pub returns-in_ok-flows-clause-said : goal.returns-in_ok-flows-clause-said
-returns-in_ok-flows-clause-said g c =
+pub returns-clause-said : goal.returns-clause-said
+returns-clause-said g c =
     let T = (case_frame g.F.CaseNumber.numbers (content c.args.case.now)) in
     let js = same_hypotheses g.F.Number.parts c.args.earlier.now in
-    step_read T (map (step_parts g.F.Number.parts) c.args.earlier.now) c.args.hypothesis c.args.lines.now c.lists.new.lines (map (map g.F.Number.parts) c.in_ok-flows.field-0)
-    (subst (λ hs. Gives (numbers T Flow hs) c.args.lines.now (map (map g.F.Number.parts) c.in_ok-flows.field-0) c.lists.new.lines) js c.in_ok-flows.ensures.said) c.lists.ensures.end
+    step_read T (map (step_parts g.F.Number.parts) c.args.earlier.now) c.args.hypothesis c.args.lines.now c.lists.new.lines (map (map g.F.Number.parts) c.in_ok-flows.flows)
+    (subst (λ hs. Gives (numbers T Flow hs) c.args.lines.now (map (map g.F.Number.parts) c.in_ok-flows.flows) c.lists.new.lines) js c.in_ok-flows.ensures.said) c.lists.ensures.end
 
-pub returns-in_ok-flows-clause-left : goal.returns-in_ok-flows-clause-left
-returns-in_ok-flows-clause-left g c =
+pub returns-clause-left : goal.returns-clause-left
+returns-clause-left g c =
     let T = (case_frame g.F.CaseNumber.numbers (content c.args.case.now)) in
-    gives_left (numbers T Flow (hypotheses_of c.args.earlier.now)) c.args.lines.now c.lists.new.lines (map (map g.F.Number.parts) c.in_ok-flows.field-0) c.in_ok-flows.ensures.said
+    gives_left (numbers T Flow (hypotheses_of c.args.earlier.now)) c.args.lines.now c.lists.new.lines (map (map g.F.Number.parts) c.in_ok-flows.flows) c.in_ok-flows.ensures.said

@@ -24,8 +24,8 @@ use Rattle.evidence_check.proofs.ReadAnswers.{Fails, Gives, handed, reads, line_
 use Rattle.evidence_check.proofs.ReadAnswers.{first_fails, items_end, item_fails, item_reads, found_one, found_other, found_none, found_bad, gives_left, frame_name, known_at, step_at}
 use Rattle.evidence_check.proofs.document.steps.Given as goal
 
-abbrev pub invariant-loop-hypothesis : goal.invariant-loop-hypothesis
-invariant-loop-hypothesis g l =
+abbrev pub invariant-loop-steps : goal.invariant-loop-steps
+invariant-loop-steps g l =
     let T = case_frame g.F.CaseNumber.numbers (content l.case) in
     record {
       end : l.lines.end ≡ l.fn.lines.end;
@@ -33,5 +33,5 @@ invariant-loop-hypothesis g l =
       so_far : reads (Many (step_line T) (step T) []) l.fn.lines ≡ reads (Many (step_line T) (step T) (map (step_parts g.F.Number.parts) l.steps)) l.lines;
     }
 
-abbrev pub decreases-loop-hypothesis : goal.decreases-loop-hypothesis
-decreases-loop-hypothesis g l = length l.lines.rows
+abbrev pub decreases-loop-steps : goal.decreases-loop-steps
+decreases-loop-steps g l = length l.lines.rows
