@@ -7,7 +7,7 @@ use Rattle.std.proofs.lemmas.List.{append-nil, length-map}
 use Rattle.std.proofs.lemmas.List.Elements.{All-head, All-tail}
 use Rattle.text_lines.specs.Forms.{Say, Line, Then, Many, Seen, Lacks, Is, AreMany, IsDocument}
 use Rattle.text_lines.specs.Kinds.{each_of, each_after}
-use Rattle.text_lines.proofs.Written.{lines_in, Says, cut, first_of_lines, no_lines, says_say, says_line, says_then, says_all}
+use Rattle.text_lines.proofs.Written.{lines_in, Says, cut, first_of_lines, says_say, says_line, says_then, says_all}
 use Rattle.field_core.specs.Kind.{Parts}
 use Rattle.evidence_check.specs.declared.fault.ProofKind.{ProofKind}
 use Rattle.evidence_check.specs.declared.quantity.Quantity.{Quantity}
@@ -78,7 +78,7 @@ module _ (T : Frame) where
       → All (λ s. T.position (T.name s.hypothesis) ≡ Some s.hypothesis) ss → All (λ s. All (All (IsPrinted T)) s.flows) ss
       → (rows rest : Rows) → lines_in rows ≡ step_lines T js ss → Lacks (step_line T) rest
       → AreMany (step_line T) (λ ys j. Is (step T ys j)) earlier (rows ++ rest) ss rest
-  steps_say earlier [] js n f k h rows rest e l = (ap (λ rs. rs ++ rest) (sym (no_lines rows e)), subst (λ rs. Lacks (step_line T) (rs ++ rest)) (sym (no_lines rows e)) l)
+  steps_say earlier [] js n f k h rows rest e l = let none = (says_say rows rows rest e).1 in (none, subst (Lacks (step_line T)) none l)
   steps_say earlier (s ∷ ss) js n f k h rows rest e l =
       let d = first_of_lines rows (step_words T s.hypothesis) (list_lines T Flow 0 js s.flows ++ step_lines T (js ++ s.hypothesis ∷ []) ss) e in
       let c = cut d.rest (list_lines T Flow 0 js s.flows) (step_lines T (js ++ s.hypothesis ∷ []) ss) d.others in
