@@ -24,8 +24,8 @@ use Rattle.evidence_check.specs.declared.quantity.Quantity.{Quantity}
 use Rattle.evidence_check.specs.declared.quantity.Quantity.TheVariants.{Flow, Exit}
 use Rattle.evidence_check.specs.EvidenceParts.{StepParts, KeepParts, FlowsFit, ExitsFit, FitsSize}
 use Rattle.evidence_check.specs.EvidenceView.{step_parts, keep_parts, version_of, steps_of, keeps_of, IsEvidenceFor}
-use Rattle.evidence_check.specs.Documents.{Form, SaysVersion, SaysStep, SaysNumber, SaysKeep, SaysEnd, number_forms, list_forms, step_forms, keep_forms}
-use Rattle.evidence_check.specs.Documents.{evidence_forms, evidence_lines, line_of}
+use Rattle.evidence_check.specs.DocumentLines.{Frame, version_words, step_words, number_words, keep_words, end_words}
+use Rattle.evidence_check.specs.EvidenceLines.{number_lines, list_lines, step_lines, keep_lines, evidence_lines}
 use Rattle.evidence_check.specs.NumberReading.{case_frame}
 use Rattle.evidence_check.specs.DocumentStatements.{IsPrinted, ArePrinted, SaysEvidence, evidence_text}
 use Rattle.evidence_check.proofs.CheckAnswers.{fractions_of, quotients_of}
@@ -65,9 +65,8 @@ evidence_stored c (Eps v) h = subst (λ n. AreStored n (steps_of (Eps v)) (keeps
 -- ---- each line is one
 
 module _ (n : Numbers) (c : Content) (words : Each c.names IsWord) (apart : AreDistinct c.names) (few : length c.components ≤ 8) where
-  -- what is said is a line
-  abbrev SaidInLine : Form → Type 0
-  SaidInLine f = IsLine (line_of (case_frame n c) f)
+  abbrev T : Frame
+  T = case_frame n c
 
   -- it is a hypothesis of the case
   abbrev IsKnown : ℕ → Type 0
@@ -76,14 +75,14 @@ module _ (n : Numbers) (c : Content) (words : Each c.names IsWord) (apart : AreD
   name_is : (j : ℕ) → IsKnown j → IsWord (get_or c.names j [])
   name_is j l = name_word c.names j words l
 
-  number_is : (q : Quantity) (k j : ℕ) (x : Parts) → k < 8 → IsKnown j → IsStoredIn n x → SaidInLine (SaysNumber q k j x)
+  number_is : (q : Quantity) (k j : ℕ) (x : Parts) → k < 8 → IsKnown j → IsStoredIn n x → IsLine (number_words T q k j x)
   number_is Flow k j x l h s = keyed _ _ (decimal (k + 1) ∷ get_or c.names j [] ∷ (case_frame n c).text x ∷ []) refl refl
       (whole_is_word (k + 1) (omega arith), (name_is j h, (number_is_word n x s, tt)))
   number_is Exit k j x l h s = keyed _ _ (decimal (k + 1) ∷ get_or c.names j [] ∷ (case_frame n c).text x ∷ []) refl refl
       (whole_is_word (k + 1) (omega arith), (name_is j h, (number_is_word n x s, tt)))
 
   numbers_are : (q : Quantity) (k : ℕ) (js : List ℕ) (xs : List Parts) → k < 8 → All IsKnown js → All (IsStoredIn n) xs
-      → AllByRecursion SaidInLine (number_forms q k js xs)
+      → AllByRecursion IsLine (number_lines T q k js xs)
   numbers_are q k [] xs l h s = tt
   numbers_are q k (j ∷ js) [] l h s = tt
   numbers_are q k (j ∷ js) (x ∷ xs) l h s = (
@@ -92,56 +91,52 @@ module _ (n : Numbers) (c : Content) (words : Each c.names IsWord) (apart : AreD
   )
 
   lists_are : (q : Quantity) (k : ℕ) (js : List ℕ) (lists : List (List Parts)) → k + length lists ≤ 8 → All IsKnown js
-      → All (All (IsStoredIn n)) lists → AllByRecursion SaidInLine (list_forms q k js lists)
+      → All (All (IsStoredIn n)) lists → AllByRecursion IsLine (list_lines T q k js lists)
   lists_are q k js [] l h s = tt
   lists_are q k js (xs ∷ lists) l h s =
-      all_append SaidInLine (number_forms q k js xs) (list_forms q (suc k) js lists)
+      all_append IsLine (number_lines T q k js xs) (list_lines T q (suc k) js lists)
       (numbers_are q k js xs (omega arith) h (All-head (All (IsStoredIn n)) xs lists s))
       (lists_are q (suc k) js lists (omega arith) h (All-tail (All (IsStoredIn n)) xs lists s))
 
-  step_is : (j : ℕ) → IsKnown j → SaidInLine (SaysStep j)
+  step_is : (j : ℕ) → IsKnown j → IsLine (step_words T j)
   step_is j h = keyed _ _ (get_or c.names j [] ∷ []) refl refl (name_is j h, tt)
 
-  keep_is : (j : ℕ) → IsKnown j → SaidInLine (SaysKeep j)
+  keep_is : (j : ℕ) → IsKnown j → IsLine (keep_words T j)
   keep_is j h = keyed _ _ (get_or c.names j [] ∷ []) refl refl (name_is j h, tt)
 
-  version_is : (v : ℕ) → (v ≡ 1) ⊎ (v ≡ 2) → SaidInLine (SaysVersion v)
+  version_is : (v : ℕ) → (v ≡ 1) ⊎ (v ≡ 2) → IsLine (version_words v)
   version_is v h = keyed _ _ (decimal v ∷ []) refl refl (whole_is_word v (low h), tt)
     where
       low : (v ≡ 1) ⊎ (v ≡ 2) → v ≤ 12
       low (inl e) = omega (arith, e)
       low (inr e) = omega (arith, e)
 
-  end_is : SaidInLine SaysEnd
+  end_is : IsLine end_words
   end_is = keyed _ _ [] refl refl tt
 
   steps_are : (i : ℕ) (js : List ℕ) (ss : List StepParts) → All IsKnown js → All (λ s. IsKnown s.hypothesis) ss → FlowsFit (length c.components) i ss
-      → All (λ s. All (All (IsStoredIn n)) s.flows) ss → AllByRecursion SaidInLine (step_forms js ss)
+      → All (λ s. All (All (IsStoredIn n)) s.flows) ss → AllByRecursion IsLine (step_lines T js ss)
   steps_are i js [] h k f s = tt
   steps_are i js (t ∷ ss) h k f s =
       let below = All-head (λ s. IsKnown s.hypothesis) t ss k in
       let many : length t.flows ≡ length c.components = f.0.lists in (
         step_is t.hypothesis below,
-        all_append SaidInLine (list_forms Flow 0 js t.flows) (step_forms (js ++ t.hypothesis ∷ []) ss)
+        all_append IsLine (list_lines T Flow 0 js t.flows) (step_lines T (js ++ t.hypothesis ∷ []) ss)
             (lists_are Flow 0 js t.flows (omega arith) h (All-head (λ s. All (All (IsStoredIn n)) s.flows) t ss s))
             (steps_are (suc i) (js ++ t.hypothesis ∷ []) ss (All-push IsKnown js t.hypothesis h below) (All-tail (λ s. IsKnown s.hypothesis) t ss k) f.1
             (All-tail (λ s. All (All (IsStoredIn n)) s.flows) t ss s)),
       )
 
   keeps_are : (i : ℕ) (js : List ℕ) (xs : List KeepParts) → All IsKnown js → All (λ x. IsKnown x.hypothesis) xs → ExitsFit (length c.components) i xs
-      → All (λ x. All (All (IsStoredIn n)) x.exits) xs → AllByRecursion SaidInLine (keep_forms js xs)
+      → All (λ x. All (All (IsStoredIn n)) x.exits) xs → AllByRecursion IsLine (keep_lines T js xs)
   keeps_are i js [] h k f s = tt
   keeps_are i js (x ∷ xs) h k f s =
       let many : length x.exits ≡ length c.components = f.0.lists in (
         keep_is x.hypothesis (All-head (λ x. IsKnown x.hypothesis) x xs k),
-        all_append SaidInLine (list_forms Exit 0 js x.exits) (keep_forms js xs)
+        all_append IsLine (list_lines T Exit 0 js x.exits) (keep_lines T js xs)
             (lists_are Exit 0 js x.exits (omega arith) h (All-head (λ x. All (All (IsStoredIn n)) x.exits) x xs s))
             (keeps_are i js xs h (All-tail (λ x. IsKnown x.hypothesis) x xs k) f.1 (All-tail (λ x. All (All (IsStoredIn n)) x.exits) x xs s)),
       )
-
-  as_lines : (fs : List Form) → AllByRecursion SaidInLine fs → AllByRecursion IsLine (map (line_of (case_frame n c)) fs)
-  as_lines [] h = tt
-  as_lines (f ∷ fs) h = (h.0, as_lines fs h.1)
 
   module _ (v : ℕ) (ss : List StepParts) (xs : List KeepParts) (version : (v ≡ 1) ⊎ (v ≡ 2))
       (size : FitsSize (length c.names) (length c.components) ss xs) (stored : AreStored n ss xs) where
@@ -151,10 +146,10 @@ module _ (n : Numbers) (c : Content) (words : Each c.names IsWord) (apart : AreD
     all_lines : AllByRecursion IsLine (evidence_lines (case_frame n c) v ss xs)
     all_lines =
         let js = map (λ s. s.hypothesis) ss in
-        as_lines (evidence_forms v ss xs) (
+        (
           version_is v version,
-          all_append SaidInLine (step_forms [] ss ++ keep_forms js xs) (SaysEnd ∷ [])
-              (all_append SaidInLine (step_forms [] ss) (keep_forms js xs)
+          all_append IsLine (step_lines T [] ss ++ keep_lines T js xs) (end_words ∷ [])
+              (all_append IsLine (step_lines T [] ss) (keep_lines T js xs)
               (steps_are 0 [] ss (λ i d lt. absurd (omega arith)) size.steps_below size.flows stored.flows)
               (keeps_are (length ss) js xs known size.keeps_below size.exits stored.exits))
               (end_is, tt),

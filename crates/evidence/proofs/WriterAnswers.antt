@@ -20,14 +20,14 @@ use Rattle.evidence_check.specs.declared.evidence.ProofStep.{ProofStep}
 use Rattle.evidence_check.specs.declared.evidence.KeepProof.{KeepProof}
 use Rattle.evidence_check.specs.EvidenceParts.{StepParts, KeepParts, AreFull, FlowsFit, ExitsFit}
 use Rattle.evidence_check.specs.EvidenceView.{hypotheses_of, step_parts, keep_parts, IsEvidenceFor}
-use Rattle.evidence_check.specs.Documents.{Form, SaysVersion, SaysStep, SaysNumber, SaysKeep, SaysEnd, number_forms, list_forms, step_forms, keep_forms}
-use Rattle.evidence_check.specs.Documents.{evidence_forms, evidence_lines}
+use Rattle.evidence_check.specs.DocumentLines.{Words, Frame, version_words, step_words, number_words, keep_words, end_words}
+use Rattle.evidence_check.specs.EvidenceLines.{number_lines, list_lines, step_lines, keep_lines, evidence_lines}
 use Rattle.evidence_check.specs.NumberReading.{case_frame}
 use Rattle.evidence_check.specs.DocumentStatements.{evidence_text}
 use Rattle.edge_text.proofs.WrittenLines.{drop_item, moved, ended}
 use Rattle.evidence_check.proofs.CheckAnswers.{form_of, fractions_of, quotients_of}
 use Rattle.evidence_check.proofs.Hypotheses.{same_hypotheses}
-use Rattle.evidence.specs.EvidenceText.{form_text, forms_text}
+use Rattle.evidence.specs.EvidenceText.{line_text}
 
 -- ---- items of lists
 
@@ -38,117 +38,117 @@ mapped_item f xs n x h e = ap f e ∙ sym (get_or-map f xs n x (f x) h)
 pub mapped_within : {A B : Type 0} (f : A → B) (xs : List A) (n : ℕ) → n < length xs → n < length (map f xs)
 mapped_within f xs n h = subst (λ k. n < k) (sym (length-map xs f)) h
 
-module _ (n : Numbers) (c : Content) where
-  text_none : forms_text n c [] ≡ []
+module _ (T : Frame) where
+  text_none : text_of [] ≡ []
   unfolding forms_text text_of
   text_none = refl
 
-  text_cons : (f : Form) (fs : List Form) → forms_text n c (f ∷ fs) ≡ form_text n c f ++ forms_text n c fs
+  text_cons : (f : Words) (fs : List Words) → text_of (f ∷ fs) ≡ line_text f ++ text_of fs
   unfolding forms_text text_of
   text_cons f fs = refl
 
-  text_append : (fs gs : List Form) → forms_text n c (fs ++ gs) ≡ forms_text n c fs ++ forms_text n c gs
-  text_append [] gs = sym (ap (λ t. t ++ forms_text n c gs) text_none)
+  text_append : (fs gs : List Words) → text_of (fs ++ gs) ≡ text_of fs ++ text_of gs
+  text_append [] gs = sym (ap (λ t. t ++ text_of gs) text_none)
   text_append (f ∷ fs) gs =
-      text_cons f (fs ++ gs) ∙ ap (λ t. form_text n c f ++ t) (text_append fs gs)
-      ∙ sym (append_assoc (form_text n c f) (forms_text n c fs) (forms_text n c gs))
-      ∙ ap (λ t. t ++ forms_text n c gs) (sym (text_cons f fs))
+      text_cons f (fs ++ gs) ∙ ap (λ t. line_text f ++ t) (text_append fs gs)
+      ∙ sym (append_assoc (line_text f) (text_of fs) (text_of gs))
+      ∙ ap (λ t. t ++ text_of gs) (sym (text_cons f fs))
 
   -- ---- one more
 
   -- what is put of a list of forms, and what is left
-  forms_end : (fs : List Form) (start text : List ℕ) → fs ≡ [] → text ++ forms_text n c fs ≡ start → text ≡ start
-  forms_end fs start text e h = ended text (forms_text n c fs) start (ap (forms_text n c) e ∙ text_none) h
+  forms_end : (fs : List Words) (start text : List ℕ) → fs ≡ [] → text ++ text_of fs ≡ start → text ≡ start
+  forms_end fs start text e h = ended text (text_of fs) start (ap (text_of) e ∙ text_none) h
 
   pub numbers_next : (q : Quantity) (k : ℕ) (js : List ℕ) (xs : List Parts) (e h : ℕ) (x : Parts) (start text new : List ℕ) → e < length js
       → e < length xs → h ≡ get_or js e h → x ≡ get_or xs e x
-      → text ++ forms_text n c (number_forms q k (drop e js) (drop e xs)) ≡ start → new ≡ text ++ form_text n c (SaysNumber q k h x)
-      → new ++ forms_text n c (number_forms q k (drop (e + 1) js) (drop (e + 1) xs)) ≡ start
+      → text ++ text_of (number_lines T q k (drop e js) (drop e xs)) ≡ start → new ≡ text ++ line_text (number_words T q k h x)
+      → new ++ text_of (number_lines T q k (drop (e + 1) js) (drop (e + 1) xs)) ≡ start
   numbers_next q k js xs e h x start text new below within i d s put =
-      let rest = number_forms q k (drop (e + 1) js) (drop (e + 1) xs) in
-      moved start text new (form_text n c (SaysNumber q k h x)) (forms_text n c rest) (forms_text n c (number_forms q k (drop e js) (drop e xs))) s
-      (ap₂ (λ js xs. forms_text n c (number_forms q k js xs)) (drop_item js e h below i) (drop_item xs e x within d) ∙ text_cons (SaysNumber q k h x) rest)
+      let rest = number_lines T q k (drop (e + 1) js) (drop (e + 1) xs) in
+      moved start text new (line_text (number_words T q k h x)) (text_of rest) (text_of (number_lines T q k (drop e js) (drop e xs))) s
+      (ap₂ (λ js xs. text_of (number_lines T q k js xs)) (drop_item js e h below i) (drop_item xs e x within d) ∙ text_cons (number_words T q k h x) rest)
       put
 
   pub numbers_end : (q : Quantity) (k : ℕ) (js : List ℕ) (xs : List Parts) (e : ℕ) (start text : List ℕ) → length js ≤ e
-      → text ++ forms_text n c (number_forms q k (drop e js) (drop e xs)) ≡ start → text ≡ start
-  numbers_end q k js xs e start text h s = forms_end (number_forms q k (drop e js) (drop e xs)) start text
-      (ap (λ js. number_forms q k js (drop e xs)) (drop_of_length-le js h)) s
+      → text ++ text_of (number_lines T q k (drop e js) (drop e xs)) ≡ start → text ≡ start
+  numbers_end q k js xs e start text h s = forms_end (number_lines T q k (drop e js) (drop e xs)) start text
+      (ap (λ js. number_lines T q k js (drop e xs)) (drop_of_length-le js h)) s
 
   pub lists_next : (q : Quantity) (js : List ℕ) (lists : List (List Parts)) (k : ℕ) (xs : List Parts) (start text new : List ℕ) → k < length lists
       → xs ≡ get_or lists k xs
-      → text ++ forms_text n c (list_forms q k js (drop k lists)) ≡ start → new ≡ text ++ forms_text n c (number_forms q k js xs)
-      → new ++ forms_text n c (list_forms q (k + 1) js (drop (k + 1) lists)) ≡ start
+      → text ++ text_of (list_lines T q k js (drop k lists)) ≡ start → new ≡ text ++ text_of (number_lines T q k js xs)
+      → new ++ text_of (list_lines T q (k + 1) js (drop (k + 1) lists)) ≡ start
   lists_next q js lists k xs start text new h i s put =
-      let rest = list_forms q (k + 1) js (drop (k + 1) lists) in
-      moved start text new (forms_text n c (number_forms q k js xs)) (forms_text n c rest) (forms_text n c (list_forms q k js (drop k lists))) s
-      (ap (λ ls. forms_text n c (list_forms q k js ls)) (drop_item lists k xs h i)
-      ∙ ap (λ k'. forms_text n c (number_forms q k js xs ++ list_forms q k' js (drop (k + 1) lists))) (sym (add-one k))
-      ∙ text_append (number_forms q k js xs) rest) put
+      let rest = list_lines T q (k + 1) js (drop (k + 1) lists) in
+      moved start text new (text_of (number_lines T q k js xs)) (text_of rest) (text_of (list_lines T q k js (drop k lists))) s
+      (ap (λ ls. text_of (list_lines T q k js ls)) (drop_item lists k xs h i)
+      ∙ ap (λ k'. text_of (number_lines T q k js xs ++ list_lines T q k' js (drop (k + 1) lists))) (sym (add-one k))
+      ∙ text_append (number_lines T q k js xs) rest) put
 
   pub lists_end : (q : Quantity) (js : List ℕ) (lists : List (List Parts)) (k : ℕ) (start text : List ℕ) → length lists ≤ k
-      → text ++ forms_text n c (list_forms q k js (drop k lists)) ≡ start → text ≡ start
-  lists_end q js lists k start text h s = forms_end (list_forms q k js (drop k lists)) start text (ap (list_forms q k js) (drop_of_length-le lists h)) s
+      → text ++ text_of (list_lines T q k js (drop k lists)) ≡ start → text ≡ start
+  lists_end q js lists k start text h s = forms_end (list_lines T q k js (drop k lists)) start text (ap (list_lines T q k js) (drop_of_length-le lists h)) s
 
   -- a line and then others
-  pub line_and : (f : Form) (fs : List Form) (start text new : List ℕ) → text ≡ start ++ form_text n c f → new ≡ text ++ forms_text n c fs
-      → new ≡ start ++ forms_text n c (f ∷ fs)
-  line_and f fs start text new e d = d ∙ ap (λ t. t ++ forms_text n c fs) e ∙ append_assoc start (form_text n c f) (forms_text n c fs)
+  pub line_and : (f : Words) (fs : List Words) (start text new : List ℕ) → text ≡ start ++ line_text f → new ≡ text ++ text_of fs
+      → new ≡ start ++ text_of (f ∷ fs)
+  line_and f fs start text new e d = d ∙ ap (λ t. t ++ text_of fs) e ∙ append_assoc start (line_text f) (text_of fs)
       ∙ ap (λ t. start ++ t) (sym (text_cons f fs))
 
   pub steps_next : (ss : List StepParts) (js : List ℕ) (i : ℕ) (s : StepParts) (start text new : List ℕ) → js ≡ map (λ s. s.hypothesis) ss
       → i < length ss → s ≡ get_or ss i s
-      → text ++ forms_text n c (step_forms (take i js) (drop i ss)) ≡ start
-      → new ≡ text ++ forms_text n c (SaysStep s.hypothesis ∷ list_forms Flow 0 (take i js) s.flows)
-      → new ++ forms_text n c (step_forms (take (i + 1) js) (drop (i + 1) ss)) ≡ start
+      → text ++ text_of (step_lines T (take i js) (drop i ss)) ≡ start
+      → new ≡ text ++ text_of (step_words T s.hypothesis ∷ list_lines T Flow 0 (take i js) s.flows)
+      → new ++ text_of (step_lines T (take (i + 1) js) (drop (i + 1) ss)) ≡ start
   steps_next ss js i s start text new e h d t put =
-      let here = SaysStep s.hypothesis ∷ list_forms Flow 0 (take i js) s.flows in
+      let here = step_words T s.hypothesis ∷ list_lines T Flow 0 (take i js) s.flows in
       let item : s.hypothesis ≡ get_or js i s.hypothesis = mapped_item (λ s. s.hypothesis) ss i s h d ∙ ap (λ js. get_or js i s.hypothesis) (sym e) in
       let within : i < length js = subst (λ js. i < length js) (sym e) (mapped_within (λ s. s.hypothesis) ss i h) in
       let taken : take (i + 1) js ≡ take i js ++ s.hypothesis ∷ [] = take_more js i s.hypothesis within ∙ ap (λ j. take i js ++ j ∷ []) (sym item) in
-      moved start text new (forms_text n c here) (forms_text n c (step_forms (take (i + 1) js) (drop (i + 1) ss)))
-      (forms_text n c (step_forms (take i js) (drop i ss))) t
-      (ap (λ ss. forms_text n c (step_forms (take i js) ss)) (drop_item ss i s h d)
-      ∙ ap (λ is. forms_text n c (here ++ step_forms is (drop (i + 1) ss))) (sym taken)
-      ∙ text_append here (step_forms (take (i + 1) js) (drop (i + 1) ss))) put
+      moved start text new (text_of here) (text_of (step_lines T (take (i + 1) js) (drop (i + 1) ss)))
+      (text_of (step_lines T (take i js) (drop i ss))) t
+      (ap (λ ss. text_of (step_lines T (take i js) ss)) (drop_item ss i s h d)
+      ∙ ap (λ is. text_of (here ++ step_lines T is (drop (i + 1) ss))) (sym taken)
+      ∙ text_append here (step_lines T (take (i + 1) js) (drop (i + 1) ss))) put
 
   pub steps_end : (ss : List StepParts) (js : List ℕ) (i : ℕ) (start text : List ℕ) → length ss ≤ i
-      → text ++ forms_text n c (step_forms (take i js) (drop i ss)) ≡ start → text ≡ start
-  steps_end ss js i start text h s = forms_end (step_forms (take i js) (drop i ss)) start text (ap (step_forms (take i js)) (drop_of_length-le ss h)) s
+      → text ++ text_of (step_lines T (take i js) (drop i ss)) ≡ start → text ≡ start
+  steps_end ss js i start text h s = forms_end (step_lines T (take i js) (drop i ss)) start text (ap (step_lines T (take i js)) (drop_of_length-le ss h)) s
 
   pub keeps_next : (js : List ℕ) (xs : List KeepParts) (i : ℕ) (x : KeepParts) (start text new : List ℕ) → i < length xs → x ≡ get_or xs i x
-      → text ++ forms_text n c (keep_forms js (drop i xs)) ≡ start
-      → new ≡ text ++ forms_text n c (SaysKeep x.hypothesis ∷ list_forms Exit 0 js x.exits)
-      → new ++ forms_text n c (keep_forms js (drop (i + 1) xs)) ≡ start
+      → text ++ text_of (keep_lines T js (drop i xs)) ≡ start
+      → new ≡ text ++ text_of (keep_words T x.hypothesis ∷ list_lines T Exit 0 js x.exits)
+      → new ++ text_of (keep_lines T js (drop (i + 1) xs)) ≡ start
   keeps_next js xs i x start text new h d t put =
-      let here = SaysKeep x.hypothesis ∷ list_forms Exit 0 js x.exits in
-      moved start text new (forms_text n c here) (forms_text n c (keep_forms js (drop (i + 1) xs))) (forms_text n c (keep_forms js (drop i xs))) t
-      (ap (λ xs. forms_text n c (keep_forms js xs)) (drop_item xs i x h d) ∙ text_append here (keep_forms js (drop (i + 1) xs))) put
+      let here = keep_words T x.hypothesis ∷ list_lines T Exit 0 js x.exits in
+      moved start text new (text_of here) (text_of (keep_lines T js (drop (i + 1) xs))) (text_of (keep_lines T js (drop i xs))) t
+      (ap (λ xs. text_of (keep_lines T js xs)) (drop_item xs i x h d) ∙ text_append here (keep_lines T js (drop (i + 1) xs))) put
 
   pub keeps_end : (js : List ℕ) (xs : List KeepParts) (i : ℕ) (start text : List ℕ) → length xs ≤ i
-      → text ++ forms_text n c (keep_forms js (drop i xs)) ≡ start → text ≡ start
-  keeps_end js xs i start text h s = forms_end (keep_forms js (drop i xs)) start text (ap (keep_forms js) (drop_of_length-le xs h)) s
+      → text ++ text_of (keep_lines T js (drop i xs)) ≡ start → text ≡ start
+  keeps_end js xs i start text h s = forms_end (keep_lines T js (drop i xs)) start text (ap (keep_lines T js) (drop_of_length-le xs h)) s
 
   -- the version, the steps, the keeps and the end
   pub whole_text : (v : ℕ) (ss : List StepParts) (xs : List KeepParts) (t0 t1 t2 t3 t4 : List ℕ) → t0 ≡ []
-      → t1 ≡ t0 ++ form_text n c (SaysVersion v) → t2 ≡ t1 ++ forms_text n c (step_forms [] ss)
-      → t3 ≡ t2 ++ forms_text n c (keep_forms (map (λ s. s.hypothesis) ss) xs) → t4 ≡ t3 ++ form_text n c SaysEnd
-      → t4 ≡ forms_text n c (evidence_forms v ss xs)
+      → t1 ≡ t0 ++ line_text (version_words v) → t2 ≡ t1 ++ text_of (step_lines T [] ss)
+      → t3 ≡ t2 ++ text_of (keep_lines T (map (λ s. s.hypothesis) ss) xs) → t4 ≡ t3 ++ line_text end_words
+      → t4 ≡ text_of (evidence_lines T v ss xs)
   whole_text v ss xs t0 t1 t2 t3 t4 e0 e1 e2 e3 e4 =
-      let a = form_text n c (SaysVersion v) in
-      let s = forms_text n c (step_forms [] ss) in
-      let k = forms_text n c (keep_forms (map (λ s. s.hypothesis) ss) xs) in
-      let z = form_text n c SaysEnd in
-      let last : forms_text n c (SaysEnd ∷ []) ≡ z = text_cons SaysEnd [] ∙ ap (λ t. z ++ t) text_none ∙ append-nil z in
+      let a = line_text (version_words v) in
+      let s = text_of (step_lines T [] ss) in
+      let k = text_of (keep_lines T (map (λ s. s.hypothesis) ss) xs) in
+      let z = line_text end_words in
+      let last : text_of (end_words ∷ []) ≡ z = text_cons end_words [] ∙ ap (λ t. z ++ t) text_none ∙ append-nil z in
       let first : t1 ≡ a = e1 ∙ ap (λ t. t ++ a) e0 in
       let second : t2 ≡ a ++ s = e2 ∙ ap (λ t. t ++ s) first in
       let third : t3 ≡ (a ++ s) ++ k = e3 ∙ ap (λ t. t ++ k) second in
       let fourth : t4 ≡ (a ++ s) ++ (k ++ z) = e4 ∙ ap (λ t. t ++ z) third ∙ append_assoc (a ++ s) k z in
-      let rest : forms_text n c ((step_forms [] ss ++ keep_forms (map (λ s. s.hypothesis) ss) xs) ++ SaysEnd ∷ []) ≡ (s ++ k) ++ z =
-      text_append (step_forms [] ss ++ keep_forms (map (λ s. s.hypothesis) ss) xs) (SaysEnd ∷ [])
-      ∙ ap₂ (λ t u. t ++ u) (text_append (step_forms [] ss) (keep_forms (map (λ s. s.hypothesis) ss) xs)) last in
+      let rest : text_of ((step_lines T [] ss ++ keep_lines T (map (λ s. s.hypothesis) ss) xs) ++ end_words ∷ []) ≡ (s ++ k) ++ z =
+      text_append (step_lines T [] ss ++ keep_lines T (map (λ s. s.hypothesis) ss) xs) (end_words ∷ [])
+      ∙ ap₂ (λ t u. t ++ u) (text_append (step_lines T [] ss) (keep_lines T (map (λ s. s.hypothesis) ss) xs)) last in
       fourth ∙ append_assoc a s (k ++ z) ∙ ap (λ t. a ++ t) (sym (append_assoc s k z) ∙ sym rest)
-      ∙ sym (text_cons (SaysVersion v) ((step_forms [] ss ++ keep_forms (map (λ s. s.hypothesis) ss) xs) ++ SaysEnd ∷ []))
+      ∙ sym (text_cons (version_words v) ((step_lines T [] ss ++ keep_lines T (map (λ s. s.hypothesis) ss) xs) ++ end_words ∷ []))
 
 -- ---- steps and keeps that fit
 
@@ -208,18 +208,17 @@ all_known parts m steps h = subst (All (λ j. j < m)) (sym (same_hypotheses part
 
 module _ (c : Content) (e : Evidence) where
   case_text : (n : Numbers) (v : ℕ) (ss : List StepParts) (xs : List KeepParts) → n ≡ numbers_of c
-      → forms_text n c (evidence_forms v ss xs) ≡ text_of (evidence_lines (case_frame (numbers_of c) c) v ss xs)
-  unfolding forms_text
+      → text_of (evidence_lines (case_frame n c) v ss xs) ≡ text_of (evidence_lines (case_frame (numbers_of c) c) v ss xs)
   case_text n v ss xs h = ap (λ n. text_of (evidence_lines (case_frame n c) v ss xs)) h
 
   pub plain_text : (v : Steps _) → e ≡ Plain v → IsEvidenceFor c e
-      → forms_text in_fractions c
-      (evidence_forms v.version (map (step_parts fraction_parts) v.steps) (map (keep_parts fraction_parts) v.keeps)) ≡ evidence_text c e
+      → text_of
+      (evidence_lines (case_frame in_fractions c) v.version (map (step_parts fraction_parts) v.steps) (map (keep_parts fraction_parts) v.keeps)) ≡ evidence_text c e
   plain_text v h I = case_text in_fractions v.version (map (step_parts fraction_parts) v.steps) (map (keep_parts fraction_parts) v.keeps)
       (sym (fractions_of c (form_of c e (Plain v) h I).form)) ∙ ap (evidence_text c) (sym h)
 
   pub eps_text : (v : Steps _) → e ≡ Eps v → IsEvidenceFor c e
-      → forms_text in_quotients c
-      (evidence_forms v.version (map (step_parts quotient_parts) v.steps) (map (keep_parts quotient_parts) v.keeps)) ≡ evidence_text c e
+      → text_of
+      (evidence_lines (case_frame in_quotients c) v.version (map (step_parts quotient_parts) v.steps) (map (keep_parts quotient_parts) v.keeps)) ≡ evidence_text c e
   eps_text v h I = case_text in_quotients v.version (map (step_parts quotient_parts) v.steps) (map (keep_parts quotient_parts) v.keeps)
       (sym (quotients_of c (form_of c e (Eps v) h I).form)) ∙ ap (evidence_text c) (sym h)

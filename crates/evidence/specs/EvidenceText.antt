@@ -1,28 +1,18 @@
 -- The text of evidence, line by line, and what it says.
-use Rattle.std.specs.Prelude.{◌≡◌, ℕ, List, [], ◌∷◌, ◌++◌, map}
-use Rattle.text_lines.specs.Spelling.{line_spelt, text_of}
-use Rattle.text_lines.specs.Languages.{FaultAt}
+use Rattle.std.specs.Prelude.{◌≡◌, ℕ, List, [], ◌∷◌, ◌++◌}
+use Rattle.text_lines.specs.Spelling.{line_spelt}
+use Rattle.text_lines.specs.Faults.{FaultAt}
 use Rattle.case_model.specs.Content.{Content}
 use Rattle.case_model.specs.Validity.{IsValidContent}
-use Rattle.case_numbers.specs.Numbers.{Numbers}
 use Rattle.evidence_check.specs.declared.evidence.Evidence.{Evidence}
 use Rattle.evidence_check.specs.declared.fault.ProofKind.{ProofKind}
 use Rattle.evidence_check.specs.EvidenceView.{IsEvidenceFor, version_of, steps_of, keeps_of}
-use Rattle.evidence_check.specs.Documents.{Words, Form, line_of}
-use Rattle.evidence_check.specs.NumberReading.{case_frame}
+use Rattle.evidence_check.specs.DocumentLines.{Words}
 use Rattle.evidence_check.specs.DocumentStatements.{SaysEvidence, HasFault, evidence_text}
 
 -- a line of these words, with its line feed
 abbrev pub line_text : Words → List ℕ
 line_text words = line_spelt words ++ 10 ∷ []
-
--- the line that says so of a case, in these numbers
-abbrev pub form_text : Numbers → Content → Form → List ℕ
-form_text n c form = line_text (line_of (case_frame n c) form)
-
--- the lines that say so, one after another
-unfoldable pub forms_text : Numbers → Content → List Form → List ℕ
-forms_text n c forms = text_of (map (line_of (case_frame n c)) forms)
 
 -- ---- laws
 

@@ -1,25 +1,17 @@
 //! The writer of evidence.
 ghost use Rattle.std.specs.Prelude.{◌≡◌, ◌+◌, ◌<◌, ◌++◌, [], ◌∷◌, map, length, get_or, IfOk, OnOk, All};
 ghost use Rattle.std.specs.Fmt.{decimal};
-ghost use Rattle.text_lines.specs.Spelling.{spaced};
+ghost use Rattle.text_lines.specs.Spelling.{spaced, text_of};
 ghost use Rattle.case_model.specs.CaseView.{content};
 ghost use Rattle.evidence_check.specs.declared.quantity.Quantity.TheVariants.{Flow, Exit};
 ghost use Rattle.evidence_check.specs.EvidenceParts.{AreFull, FlowsFit, ExitsFit};
 ghost use Rattle.evidence_check.specs.EvidenceView.{hypotheses_of, step_parts, keep_parts, FitsCase, IsEvidenceFor};
-ghost use Rattle.evidence_check.specs.Documents.{
-  keyword,
-  SaysVersion,
-  SaysStep,
-  SaysNumber,
-  SaysKeep,
-  number_forms,
-  list_forms,
-  step_forms,
-};
-ghost use Rattle.evidence_check.specs.Documents.{keep_forms, evidence_forms};
+ghost use Rattle.evidence_check.specs.DocumentLines.{keyword, version_words, step_words, number_words, keep_words};
+ghost use Rattle.evidence_check.specs.EvidenceLines.{number_lines, list_lines, step_lines, keep_lines, evidence_lines};
+ghost use Rattle.evidence_check.specs.NumberReading.{case_frame};
 ghost use Rattle.evidence_check.specs.NumberTexts.{number_text};
 ghost use Rattle.evidence_check.specs.DocumentStatements.{SaysEvidence, evidence_text};
-ghost use Rattle.evidence.specs.EvidenceText.{form_text, forms_text};
+ghost use Rattle.evidence.specs.EvidenceText.{line_text};
 
 use case_model::Case;
 use case_numbers::CaseNumber;
@@ -74,7 +66,7 @@ fn put_version<F: WrittenNumber>(
     case: &Case,
     version: u8,
 ) -> Result<(), NoMemory>
-    ensures { OnOk result (text.new ≡ text.old ++ form_text F.numbers (content case.now) (SaysVersion version)) }
+    ensures { OnOk result (text.new ≡ text.old ++ line_text (version_words version)) }
 {
     text.append(b"evidence")?;
     put_whole(text, version)?;
@@ -92,8 +84,8 @@ fn put_number<F: WrittenNumber>(
 ) -> Result<(), NoMemory>
     requires c { c < 8 }
     requires hypothesis { hypothesis < length (content case.now).names }
-    ensures { OnOk result (text.new ≡ text.old ++ form_text F.numbers (content case.now)
-        (SaysNumber quantity c hypothesis (F.parts number.now))) }
+    ensures { OnOk result (text.new ≡ text.old ++ line_text
+        (number_words (case_frame F.numbers (content case.now)) quantity c hypothesis (F.parts number.now))) }
 {
     text.append(keyword(quantity))?;
     put_whole(text, c as u8 + 1)?;
@@ -114,8 +106,8 @@ fn put_numbers<F: WrittenNumber>(
     requires c { c < 8 }
     requires known { All (λ j. j < length (content case.now).names) (hypotheses_of steps.now) }
     requires count { length numbers.now ≡ length steps.now }
-    ensures { OnOk result (text.new ≡ text.old ++ forms_text F.numbers (content case.now)
-        (number_forms quantity c (hypotheses_of steps.now) (map F.parts numbers.now))) }
+    ensures { OnOk result (text.new ≡ text.old ++ text_of
+        (number_lines (case_frame F.numbers (content case.now)) quantity c (hypotheses_of steps.now) (map F.parts numbers.now))) }
 {
     for e in 0..steps.len() {
         put_number(text, case, quantity, c, steps[e].hypothesis, &numbers[e])?;
@@ -133,8 +125,8 @@ fn put_lists<F: WrittenNumber>(
 ) -> Result<(), NoMemory>
     requires known { All (λ j. j < length (content case.now).names) (hypotheses_of steps.now) }
     requires full { AreFull (length (content case.now).components) (length steps.now) (map (map F.parts) lists.now) }
-    ensures { OnOk result (text.new ≡ text.old ++ forms_text F.numbers (content case.now)
-        (list_forms quantity 0 (hypotheses_of steps.now) (map (map F.parts) lists.now))) }
+    ensures { OnOk result (text.new ≡ text.old ++ text_of
+        (list_lines (case_frame F.numbers (content case.now)) quantity 0 (hypotheses_of steps.now) (map (map F.parts) lists.now))) }
 {
     for c in 0..case.components() {
         put_numbers(text, case, quantity, c, steps, lists[c].as_slice())?;
@@ -149,7 +141,7 @@ fn put_rejected<F: WrittenNumber>(
     hypothesis: usize,
 ) -> Result<(), NoMemory>
     requires { hypothesis < length (content case.now).names }
-    ensures { OnOk result (text.new ≡ text.old ++ form_text F.numbers (content case.now) (SaysStep hypothesis)) }
+    ensures { OnOk result (text.new ≡ text.old ++ line_text (step_words (case_frame F.numbers (content case.now)) hypothesis)) }
 {
     text.append(b"step")?;
     put_name(text, case, hypothesis)?;
@@ -163,7 +155,7 @@ fn put_kept<F: WrittenNumber>(
     hypothesis: usize,
 ) -> Result<(), NoMemory>
     requires { hypothesis < length (content case.now).names }
-    ensures { OnOk result (text.new ≡ text.old ++ form_text F.numbers (content case.now) (SaysKeep hypothesis)) }
+    ensures { OnOk result (text.new ≡ text.old ++ line_text (keep_words (case_frame F.numbers (content case.now)) hypothesis)) }
 {
     text.append(b"keep")?;
     put_name(text, case, hypothesis)?;
@@ -180,8 +172,8 @@ fn put_step<F: WrittenNumber>(
     requires known { All (λ j. j < length (content case.now).names) (hypotheses_of earlier.now) }
     requires below { step.now.hypothesis < length (content case.now).names }
     requires full { AreFull (length (content case.now).components) (length earlier.now) (map (map F.parts) step.now.flows) }
-    ensures { OnOk result (text.new ≡ text.old ++ forms_text F.numbers (content case.now) (SaysStep step.now.hypothesis
-        ∷ list_forms Flow 0 (hypotheses_of earlier.now) (map (map F.parts) step.now.flows))) }
+    ensures { OnOk result (text.new ≡ text.old ++ text_of (step_words (case_frame F.numbers (content case.now)) step.now.hypothesis
+        ∷ list_lines (case_frame F.numbers (content case.now)) Flow 0 (hypotheses_of earlier.now) (map (map F.parts) step.now.flows))) }
 {
     put_rejected::<F>(text, case, step.hypothesis)?;
     put_lists(text, case, Quantity::Flow, earlier, step.flows.as_slice())
@@ -195,7 +187,7 @@ fn put_steps<F: WrittenNumber>(
 ) -> Result<(), NoMemory>
     requires known { All (λ j. j < length (content case.now).names) (hypotheses_of steps.now) }
     requires fit { FlowsFit (length (content case.now).components) 0 (map (step_parts F.parts) steps.now) }
-    ensures { OnOk result (text.new ≡ text.old ++ forms_text F.numbers (content case.now) (step_forms [] (map
+    ensures { OnOk result (text.new ≡ text.old ++ text_of (step_lines (case_frame F.numbers (content case.now)) [] (map
         (step_parts F.parts) steps.now))) }
 {
     for s in 0..steps.len() {
@@ -214,8 +206,8 @@ fn put_keep<F: WrittenNumber>(
     requires known { All (λ j. j < length (content case.now).names) (hypotheses_of steps.now) }
     requires below { keep.now.hypothesis < length (content case.now).names }
     requires full { AreFull (length (content case.now).components) (length steps.now) (map (map F.parts) keep.now.exits) }
-    ensures { OnOk result (text.new ≡ text.old ++ forms_text F.numbers (content case.now) (SaysKeep keep.now.hypothesis
-        ∷ list_forms Exit 0 (hypotheses_of steps.now) (map (map F.parts) keep.now.exits))) }
+    ensures { OnOk result (text.new ≡ text.old ++ text_of (keep_words (case_frame F.numbers (content case.now)) keep.now.hypothesis
+        ∷ list_lines (case_frame F.numbers (content case.now)) Exit 0 (hypotheses_of steps.now) (map (map F.parts) keep.now.exits))) }
 {
     put_kept::<F>(text, case, keep.hypothesis)?;
     put_lists(text, case, Quantity::Exit, steps, keep.exits.as_slice())
@@ -231,8 +223,8 @@ fn put_keeps<F: WrittenNumber>(
     requires known { All (λ j. j < length (content case.now).names) (hypotheses_of steps.now) }
     requires below { All (λ x. x.hypothesis < length (content case.now).names) (map (keep_parts F.parts) keeps.now) }
     requires fit { ExitsFit (length (content case.now).components) (length steps.now) (map (keep_parts F.parts) keeps.now) }
-    ensures { OnOk result (text.new ≡ text.old ++ forms_text F.numbers (content case.now)
-        (keep_forms (hypotheses_of steps.now) (map (keep_parts F.parts) keeps.now))) }
+    ensures { OnOk result (text.new ≡ text.old ++ text_of
+        (keep_lines (case_frame F.numbers (content case.now)) (hypotheses_of steps.now) (map (keep_parts F.parts) keeps.now))) }
 {
     for keep in keeps {
         put_keep(text, case, steps, keep)?;
@@ -248,8 +240,8 @@ fn written<F: WrittenNumber>(
 ) -> Result<List<u8>, NoMemory>
     requires { FitsCase (content case.now) proof.now.version (map (step_parts F.parts) proof.now.steps)
         (map (keep_parts F.parts) proof.now.keeps) }
-    ensures { IfOk result (λ text. text ≡ forms_text F.numbers (content case.now)
-        (evidence_forms proof.now.version (map (step_parts F.parts) proof.now.steps) (map (keep_parts F.parts) proof.now.keeps))) }
+    ensures { IfOk result (λ text. text ≡ text_of
+        (evidence_lines (case_frame F.numbers (content case.now)) proof.now.version (map (step_parts F.parts) proof.now.steps) (map (keep_parts F.parts) proof.now.keeps))) }
 {
     let steps = proof.steps.as_slice();
     let mut text = List::new(alloc);

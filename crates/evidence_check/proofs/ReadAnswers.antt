@@ -1,92 +1,199 @@
--- Lines are read one after the other.
-use Rattle.std.proofs.Common.{◌≡◌, refl, sym, ap, subst, ◌∙◌, ℕ, suc, ◌+◌, ◌-◌, ◌<◌, false, List, [], ◌∷◌, ◌++◌, map}
-use Rattle.std.proofs.Common.{length, get_or, take, drop, Some, Result, Ok, Err, append_assoc, add-one, arith}
-use Rattle.std.proofs.Common.{zero-add, length-append}
+-- Lines are read by forms, one after the other.
+use Rattle.std.proofs.Common.{◌≡◌, ◌⊎◌, inl, inr, refl, sym, ap, subst, ◌∙◌, ℕ, ◌<◌, ◌≤◌, List, [], ◌∷◌, ◌++◌, ◌+◌, drop, length, get_or, zero-add, Some, None, Result, Ok, Err, Bool, true, false, ◌-◌, ◌≢◌, if◌then◌else◌, arith}
+use Rattle.std.specs.Prelude.{◌==◌}
 use Rattle.std.specs.Result.{IsErrAnd}
-use Rattle.std.proofs.lemmas.List.{drop_more, take_more, length-take, append-nil, get_or-map}
-use Rattle.std.specs.List.{All, slice_get}
-use Rattle.std.proofs.lemmas.Option.{get_or_from_slice_get}
+use Rattle.std.specs.List.{All, slice_get, range_with_len}
+use Rattle.std.proofs.lemmas.Bool.Decides.{Decides-eqb}
+use Rattle.std.proofs.lemmas.List.{length-map, get_or-map, drop_more}
+use Rattle.std.proofs.lemmas.List.FromFn.{length-range_with_len, get_or-range_with_len}
 use Rattle.std.proofs.lemmas.List.Elements.{All-get_or}
-use Rattle.evidence_check.specs.EvidenceView.{hypotheses_of}
-use Rattle.evidence_check.specs.declared.evidence.ProofStep.{ProofStep}
-use Rattle.evidence_check.proofs.Hypotheses.{as_many}
-use Rattle.std.proofs.lemmas.List.Elements.{All-nil, All-push}
-use Rattle.evidence_check.proofs.StepsAnswers.{take_end, drop_end}
+use Rattle.std.proofs.lemmas.Option.{get_or_from_slice_get}
+use Rattle.field_core.specs.Answers.{IsUnless, told_as}
+use Rattle.field_core.specs.Kind.{Parts, ok_map}
+use Rattle.field_core.proofs.Results.{same_value, same_fault}
+use Rattle.text_lines.specs.Faults.{FaultAt}
+use Rattle.text_lines.specs.Forms.{Leaf, Say, Line, Then, Many, Seen, words_seen, read}
+use Rattle.text_lines.specs.Kinds.{expected, if_any, maybe, each_after}
+use Rattle.text_lines.specs.Left.{Left}
 use Rattle.text_lines.specs.Lines.{Row}
 use Rattle.text_lines.specs.Words.{words_of}
-use Rattle.text_lines.specs.FormLanguages.{with_all, form_reading}
-use Rattle.text_lines.proofs.FormLaws.{all_none, all_joined}
-use Rattle.field_core.specs.Kind.{Parts, ok_map}
+use Rattle.text_lines.proofs.FormReads.{go_on, read_say}
+use Rattle.text_lines.proofs.FormLines.{each_taken, each_refused}
+use Rattle.text_lines.proofs.Steps.{line_taken, line_refused, then_on, then_failed, maybe_taken, maybe_other, maybe_refused, many_on, many_done, many_failed, read_shorter}
 use Rattle.case_model.specs.Content.{Content}
 use Rattle.case_numbers.specs.Numbers.{Numbers}
+use Rattle.evidence_check.specs.declared.evidence.ProofStep.{ProofStep}
 use Rattle.evidence_check.specs.declared.fault.ProofKind.{ProofKind}
 use Rattle.evidence_check.specs.declared.fault.ProofKind.TheVariants.{Ended}
 use Rattle.evidence_check.specs.declared.fault.ProofText.{ProofText}
 use Rattle.evidence_check.specs.declared.fault.ProofText.TheVariants as faults
-use Rattle.evidence_check.specs.declared.quantity.Quantity.{Quantity}
-use Rattle.evidence_check.specs.EvidenceParts.{AreFull}
-use Rattle.evidence_check.specs.Documents.{Frame, Form, SaysNumber, number_forms, list_forms, number_line, Slot, ANumber, slot_line, due, Stage, Place, At}
-use Rattle.evidence_check.specs.Documents.{read_at, next_at, is_ended, line_language}
+use Rattle.evidence_check.specs.declared.quantity.Quantity.TheVariants.{Flow, Exit}
+use Rattle.evidence_check.specs.EvidenceParts.{StepParts, KeepParts}
+use Rattle.evidence_check.specs.DocumentLines.{Words, Frame, kinds, keep_line}
+use Rattle.evidence_check.specs.Document.{Lines, numbers, named, step, keep, kept}
+use Rattle.evidence_check.specs.Evidence.{others}
+use Rattle.evidence_check.specs.EvidenceView.{hypotheses_of}
 use Rattle.evidence_check.specs.NumberReading.{case_frame}
-use Rattle.evidence_check.specs.ReadView.{Left, Taken, taken, said_at, Reads}
+use Rattle.evidence_check.specs.ReadView.{proof_fault, Reads}
+use Rattle.evidence_check.proofs.FitAnswers.{others_from}
+use Rattle.evidence_check.proofs.Hypotheses.{as_many}
 
--- ---- forms, and what is read after them
+-- ---- answers of the reader, and of forms
 
-module _ (T : Frame) where
-  pub reads_none : (p : Place) (left : Left) → Reads T p left (Ok (taken [] p left))
-  unfolding Reads
-  reads_none p left = sym (all_none (line_language T) (said_at T p left))
+-- the answer is the first fault, or the reader is out of memory
+abbrev pub Fails : {B : Type 0} → Result B (FaultAt ProofKind) → ProofText → Type 0
+Fails {B} r fault = (fault ≡ faults.NoMemory) ⊎ (◌≡◌ {A = Result B ProofText} (told_as proof_fault r) (Err fault))
 
-  -- what was taken, and what is read after it
-  pub reads_on : (p : Place) (left : Left) (took : Taken) (answer : Result Taken ProofText) → Reads T p left (Ok took) → Reads T took.place took.left answer
-      → Reads T p left (ok_map (λ more. taken (took.forms ++ more.forms) more.place more.left) answer)
-  unfolding Reads
-  reads_on p left took (Ok more) h k =
-      h ∙ ap (with_all took.forms) k ∙ sym (all_joined (line_language T) took.forms more.forms (said_at T more.place more.left))
-  reads_on p left took (Err (faults.Line n kind)) h k = h ∙ ap (with_all took.forms) k
-  reads_on p left took (Err faults.NoMemory) h k = tt
+pub told_value : {B : Type 0} (r : Result B (FaultAt ProofKind)) (b : B) → told_as proof_fault r ≡ Ok b → r ≡ Ok b
+told_value (Ok c) b e = ap Ok (same_value c b e)
+told_value (Err f) b e = absurd (cc e)
 
-  -- a line that says something
-  pub reads_line : (p : Place) (row : Row) (rows : List Row) (end : ℕ) (f : Form) → read_at T p (words_of row.text) ≡ Ok f
-      → Reads T p (record { rows = row ∷ rows; end = end }) (Ok (taken (f ∷ []) (next_at T p f) (record { rows = rows; end = end })))
-  unfolding Reads
-  reads_line p row rows end f e = rw e refl
+told_fault : {B : Type 0} (r : Result B (FaultAt ProofKind)) (fault : ProofText) → told_as proof_fault r ≡ Err fault
+    → (f : FaultAt ProofKind) × (r ≡ Err f) × (proof_fault f ≡ fault)
+told_fault (Ok c) fault e = absurd (cc e)
+told_fault (Err f) fault e = (f, refl, same_fault (proof_fault f) fault e)
 
-  -- a line that isn't allowed
-  pub reads_bad : (p : Place) (row : Row) (rows : List Row) (end : ℕ) (kind : ProofKind) → read_at T p (words_of row.text) ≡ Err kind
-      → Reads T p (record { rows = row ∷ rows; end = end }) (Err (faults.Line row.number kind))
-  unfolding Reads
-  reads_bad p row rows end kind e = rw e refl
+-- a fault of the one is a fault of the other
+pub fails_too : {B D : Type 0} (r : Result B (FaultAt ProofKind)) (s : Result D (FaultAt ProofKind)) (fault : ProofText)
+    → ((f : FaultAt ProofKind) → r ≡ Err f → s ≡ Err f) → Fails r fault → Fails s fault
+fails_too r s fault h (inl e) = inl e
+fails_too r s fault h (inr e) = let t = told_fault r fault e in inr (ap (told_as proof_fault) (h t.0 t.1) ∙ ap Err t.2)
 
-  -- no line
-  pub reads_early : (p : Place) (left : Left) (fault : ProofText) → is_ended p ≡ false → left.rows ≡ [] → fault ≡ faults.Line left.end Ended
-      → Reads T p left (Err fault)
-  unfolding Reads
-  reads_early p left fault e r f = subst (λ x. Reads T p left (Err x)) (sym f)
-      (subst (λ rows. form_reading (line_language T) p rows left.end ≡ Err (record { line = left.end; kind = Ended })) (sym r) (rw e refl))
+-- an error that is handed on
+pub handed : {X B : Type 0} (view : X → B) (result : Result X ProofText) (fault : ProofText) (answer : Result B (FaultAt ProofKind))
+    → IsErrAnd result (λ y. y ≡ fault) → Fails answer fault → IsUnless faults.NoMemory (ok_map view result) (told_as proof_fault answer)
+handed view (Ok x) fault answer h k = absurd h
+handed view (Err y) fault answer h (inl e) = inl (h ∙ e)
+handed view (Err y) fault answer h (inr e) = inr (e ∙ ap Err (sym h))
 
-  pub reads_memory : (p : Place) (left : Left) → Reads T p left (Err faults.NoMemory)
-  unfolding Reads
-  reads_memory p left = tt
+-- ---- what is left
 
-  -- a line that must stand
-  pub reads_slot : (s : Slot) (ss : List Slot) (stage : Stage) (row : Row) (rows : List Row) (end : ℕ) (f : Form) → slot_line T s (words_of row.text) ≡
-      Ok f
-      → Reads T (At (s ∷ ss) stage) (record { rows = row ∷ rows; end = end }) (Ok (taken (f ∷ []) (At ss stage) (record { rows = rows; end = end })))
-  unfolding read_at next_at
-  reads_slot s ss stage row rows end f e = reads_line (At (s ∷ ss) stage) row rows end f e
+pub seen_length : (rows : List Row) → length (words_seen rows) ≡ length rows
+seen_length rows = length-map rows (λ row. record { number = row.number; line = words_of row.text })
 
-  pub slot_bad : (s : Slot) (ss : List Slot) (stage : Stage) (row : Row) (rows : List Row) (end : ℕ) (kind : ProofKind)
-      → slot_line T s (words_of row.text) ≡ Err kind → Reads T (At (s ∷ ss) stage) (record { rows = row ∷ rows; end = end })
-      (Err (faults.Line row.number kind))
-  unfolding read_at
-  slot_bad s ss stage row rows end kind e = reads_bad (At (s ∷ ss) stage) row rows end kind e
+-- ---- one form after the other
 
--- a fault that is handed on
-pub reads_handed : {A : Type 0} (T : Frame) (p : Place) (left : Left) (f : A → Taken) (result : Result A ProofText) (fault : ProofText)
-    → IsErrAnd result (λ y. y ≡ fault) → Reads T p left (Err fault) → Reads T p left (ok_map f result)
-reads_handed T p left f (Ok x) fault h k = absurd h
-reads_handed T p left f (Err y) fault h k = subst (λ x. Reads T p left (Err x)) (sym h) k
+-- what a form reads of what is left
+abbrev pub reads : {B : Type 0} → Lines B → Left → Result (B × List (Seen Words)) (FaultAt ProofKind)
+reads form left = read kinds form (words_seen left.rows) left.end
+
+-- it is this, and then these lines are left
+abbrev pub Gives : {B : Type 0} → Lines B → Left → B → Left → Type 0
+Gives {B} form left b new = ◌≡◌ {A = Result (B × List (Seen Words)) ProofText} (told_as proof_fault (reads form left)) (Ok (b, words_seen new.rows))
+
+given : {B : Type 0} (form : Lines B) (left new : Left) (b : B) → Gives form left b new → reads form left ≡ Ok (b, words_seen new.rows)
+given {B} form left new b e = told_value {B = B × List (Seen Words)} (reads form left) (b, words_seen new.rows) e
+
+pub gives_left : {B : Type 0} (form : Lines B) (left new : Left) (b : B) → Gives form left b new → length new.rows ≤ length left.rows
+gives_left form left new b e =
+    subst (λ n. n ≤ length left.rows) (seen_length new.rows) (subst (λ n. length (words_seen new.rows) ≤ n) (seen_length left.rows)
+    (read_shorter kinds form (words_seen left.rows) left.end b (words_seen new.rows) (given form left new b e)))
+
+-- a line that must be there
+module _ {A : Type 0} (l : Leaf Words ProofKind A) (left : Left) where
+  pub line_given : (row : Row) (new : Left) (a : A) → left.rows ≡ row ∷ new.rows → expected kinds (l (words_of row.text)) ≡ Ok a → Gives (Line l) left a new
+  line_given row new a r e = ap (told_as proof_fault) (ap (λ rs. read kinds (Line l) (words_seen rs) left.end) r
+      ∙ line_taken kinds l (record { number = row.number; line = words_of row.text }) (words_seen new.rows) left.end a e)
+
+  pub line_fails : (row : Row) (rows : List Row) (kind : ProofKind) → left.rows ≡ row ∷ rows → expected kinds (l (words_of row.text)) ≡ Err kind
+      → Fails (reads (Line l) left) (faults.Line row.number kind)
+  line_fails row rows kind r e = inr (ap (told_as proof_fault) (ap (λ rs. read kinds (Line l) (words_seen rs) left.end) r
+      ∙ line_refused kinds l (record { number = row.number; line = words_of row.text }) (words_seen rows) left.end kind e))
+
+  pub line_missing : (fault : ProofText) → left.rows ≡ [] → fault ≡ faults.Line left.end Ended → Fails (reads (Line l) left) fault
+  line_missing fault r e = inr (ap (told_as proof_fault) (ap (λ rs. read kinds (Line l) (words_seen rs) left.end) r) ∙ ap Err (sym e))
+
+-- a form, and then another
+module _ {A B : Type 0} (f : Lines A) (g : A → Lines B) (left : Left) where
+  pub then_fails : (fault : ProofText) → Fails (reads f left) fault → Fails (reads (Then f g) left) fault
+  then_fails fault h = fails_too (reads f left) (reads (Then f g) left) fault (λ e k. then_failed kinds f g (words_seen left.rows) left.end e k) h
+
+  pub then_reads : (a : A) (new : Left) → Gives f left a new → new.end ≡ left.end → reads (Then f g) left ≡ reads (g a) new
+  then_reads a new h e = then_on kinds f g (words_seen left.rows) (words_seen new.rows) left.end a (given f left new a h)
+      ∙ ap (λ n. read kinds (g a) (words_seen new.rows) n) (sym e)
+
+-- the next of some
+module _ {X A : Type 0} (f : X → Lines A) (before : List A) (x : X) (xs : List X) (left : Left) (whole : Result (List A × List (Seen Words)) (FaultAt ProofKind))
+    (so_far : whole ≡ reads (each_after f before (x ∷ xs)) left) where
+  pub next_fails : (fault : ProofText) → Fails (reads (f x) left) fault → Fails whole fault
+  next_fails fault h = fails_too (reads (f x) left) whole fault (λ e k. so_far ∙ each_refused kinds f before x xs (words_seen left.rows) left.end e k) h
+
+  pub next_reads : (a : A) (new : Left) → Gives (f x) left a new → new.end ≡ left.end → whole ≡ reads (each_after f (before ++ a ∷ []) xs) new
+  next_reads a new h e = so_far ∙ each_taken kinds f before x xs (words_seen left.rows) (words_seen new.rows) left.end a (given (f x) left new a h)
+      ∙ ap (λ n. read kinds (each_after f (before ++ a ∷ []) xs) (words_seen new.rows) n) (sym e)
+
+-- no more of them
+pub none_left : {X A : Type 0} (f : X → Lines A) (before : List A) (xs : List X) (left : Left) (whole : Result (List A × List (Seen Words)) (FaultAt ProofKind))
+    → whole ≡ reads (each_after f before xs) left → xs ≡ [] → ◌≡◌ {A = Result (List A × List (Seen Words)) ProofText} (told_as proof_fault whole) (Ok (before, words_seen left.rows))
+none_left f before xs left whole so_far e =
+    ap (told_as proof_fault) (so_far ∙ ap (λ ys. reads (each_after f before ys) left) e ∙ read_say kinds before (words_seen left.rows) left.end)
+
+-- items, each with its first line
+module _ {A B : Type 0} (l : Leaf Words ProofKind A) (body : List B → A → Lines B) (xs : List B) (left : Left)
+    (whole : Result (List B × List (Seen Words)) (FaultAt ProofKind)) (so_far : whole ≡ reads (Many l body xs) left) where
+  pub first_fails : (fault : ProofText) → Fails (reads (maybe l) left) fault → Fails whole fault
+  first_fails fault h = fails_too (reads (maybe l) left) whole fault (λ e k. so_far ∙ many_failed kinds l body xs (words_seen left.rows) left.end e k) h
+
+  pub items_end : (new : Left) → Gives (maybe l) left None new
+      → ◌≡◌ {A = Result (List B × List (Seen Words)) ProofText} (told_as proof_fault whole) (Ok (xs, words_seen new.rows))
+  items_end new h = ap (told_as proof_fault) (so_far ∙ many_done kinds l body xs (words_seen left.rows) (words_seen new.rows) left.end (given (maybe l) left new None h))
+
+  module _ (a : A) (mid : Left) (h : Gives (maybe l) left (Some a) mid) (same : mid.end ≡ left.end) where
+    item : whole ≡ go_on kinds (reads (body xs a) mid) (λ x. Many l body (xs ++ x ∷ [])) mid.end
+    item = so_far ∙ many_on kinds l body xs (words_seen left.rows) (words_seen mid.rows) left.end a (given (maybe l) left mid (Some a) h)
+        ∙ ap (λ n. go_on kinds (read kinds (body xs a) (words_seen mid.rows) n) (λ x. Many l body (xs ++ x ∷ [])) n) (sym same)
+
+    pub item_fails : (fault : ProofText) → Fails (reads (body xs a) mid) fault → Fails whole fault
+    item_fails fault k = fails_too (reads (body xs a) mid) whole fault
+        (λ e m. item ∙ ap {A = Result (B × List (Seen Words)) (FaultAt ProofKind)} (λ r. go_on kinds r (λ x. Many l body (xs ++ x ∷ [])) mid.end) m) k
+
+    pub item_reads : (x : B) (new : Left) → Gives (body xs a) mid x new → new.end ≡ mid.end → whole ≡ reads (Many l body (xs ++ x ∷ [])) new
+    item_reads x new k e =
+        item ∙ ap {A = Result (B × List (Seen Words)) (FaultAt ProofKind)} (λ r. go_on kinds r (λ x. Many l body (xs ++ x ∷ [])) mid.end) (given (body xs a) mid new x k)
+        ∙ ap (λ n. read kinds (Many l body (xs ++ x ∷ [])) (words_seen new.rows) n) (sym e)
+
+-- the next line, if it is of this kind
+module _ {A : Type 0} (l : Leaf Words ProofKind A) (left : Left) where
+  pub found_one : (row : Row) (new : Left) (a : A) → left.rows ≡ row ∷ new.rows → if_any (l (words_of row.text)) ≡ Ok (Some a) → Gives (maybe l) left (Some a) new
+  found_one row new a r e = ap (told_as proof_fault) (ap (λ rs. read kinds (maybe l) (words_seen rs) left.end) r
+      ∙ maybe_taken kinds l (record { number = row.number; line = words_of row.text }) (words_seen new.rows) left.end a e)
+
+  pub found_other : (row : Row) (rows : List Row) → left.rows ≡ row ∷ rows → if_any (l (words_of row.text)) ≡ Ok None → Gives (maybe l) left None left
+  found_other row rows r e = ap (told_as proof_fault) (ap (λ rs. read kinds (maybe l) (words_seen rs) left.end) r
+      ∙ maybe_other kinds l (record { number = row.number; line = words_of row.text }) (words_seen rows) left.end e)
+      ∙ ap (λ rs. Ok (None, words_seen rs)) (sym r)
+
+  pub found_none : left.rows ≡ [] → Gives (maybe l) left None left
+  found_none r = ap (λ rs. told_as proof_fault (read kinds (maybe l) (words_seen rs) left.end)) r ∙ ap (λ rs. Ok (None, words_seen rs)) (sym r)
+
+  pub found_bad : (row : Row) (rows : List Row) (kind : ProofKind) → left.rows ≡ row ∷ rows → if_any (l (words_of row.text)) ≡ Err kind
+      → Fails (reads (maybe l) left) (faults.Line row.number kind)
+  found_bad row rows kind r e = inr (ap (told_as proof_fault) (ap (λ rs. read kinds (maybe l) (words_seen rs) left.end) r
+      ∙ maybe_refused kinds l (record { number = row.number; line = words_of row.text }) (words_seen rows) left.end kind e))
+
+-- ---- a step, and a keep
+
+pub step_read : (T : Frame) (earlier : List StepParts) (j : ℕ) (left new : Left) (flows : List (List Parts)) → Gives (numbers T Flow (named earlier)) left flows new
+    → new.end ≡ left.end → Gives (step T earlier j) left (record { hypothesis = j; flows = flows }) new
+step_read T earlier j left new flows h e =
+    ap (told_as proof_fault) (then_reads (numbers T Flow (named earlier)) (λ flows. Say (record { hypothesis = j; flows = flows })) left flows new h e
+    ∙ read_say kinds (record { hypothesis = j; flows = flows }) (words_seen new.rows) new.end)
+
+module _ (T : Frame) (js : List ℕ) (k : ℕ) (left mid : Left) (first : Gives (Line (keep_line T k)) left k mid) (same : mid.end ≡ left.end) where
+  exits_next : reads (keep T js k) left ≡ reads (Then (numbers T Exit js) (λ exits. Say (record { hypothesis = k; exits = exits }))) mid
+  exits_next = then_reads (Line (keep_line T k)) (λ k. Then (numbers T Exit js) (λ exits. Say (record { hypothesis = k; exits = exits }))) left k mid first same
+
+  pub keep_exits_fail : (fault : ProofText) → Fails (reads (numbers T Exit js) mid) fault → Fails (reads (keep T js k) left) fault
+  keep_exits_fail fault h = fails_too (reads (Then (numbers T Exit js) (λ exits. Say (record { hypothesis = k; exits = exits }))) mid) (reads (keep T js k) left) fault
+      (λ f e. exits_next ∙ e) (then_fails (numbers T Exit js) (λ exits. Say (record { hypothesis = k; exits = exits })) mid fault h)
+
+  pub keep_read : (new : Left) (exits : List (List Parts)) → Gives (numbers T Exit js) mid exits new → new.end ≡ mid.end
+      → Gives (keep T js k) left (record { hypothesis = k; exits = exits }) new
+  keep_read new exits h e =
+      ap (told_as proof_fault) (exits_next ∙ then_reads (numbers T Exit js) (λ exits. Say (record { hypothesis = k; exits = exits })) mid exits new h e
+      ∙ read_say kinds (record { hypothesis = k; exits = exits }) (words_seen new.rows) new.end)
+
+-- ---- names
 
 -- the name of a hypothesis of the case
 pub frame_name : (n : Numbers) (c : Content) (j : ℕ) (name : List ℕ) → slice_get c.names j ≡ Some name → (case_frame n c).name j ≡ name
@@ -102,166 +209,35 @@ pub step_at : {F : Type 0} (steps : List (ProofStep F)) (e : ℕ) (s : ProofStep
     → get_or (hypotheses_of steps) e 0 ≡ (get_or steps e s).hypothesis
 step_at steps e s p = get_or-map (λ s. s.hypothesis) steps e s 0 p
 
--- ---- the numbers of a component
+-- the hypotheses from a step on
+pub here : {F : Type 0} (steps : List (ProofStep F)) (e : ℕ) (s : ProofStep F) → e < length steps
+    → drop e (hypotheses_of steps) ≡ (get_or steps e s).hypothesis ∷ drop (e + 1) (hypotheses_of steps)
+here steps e s p = drop_more (hypotheses_of steps) e 0 (subst (λ n. e < n) (as_many steps) p)
+    ∙ ap (λ j. j ∷ drop (e + 1) (hypotheses_of steps)) (step_at steps e s p)
 
-number_snoc : (q : Quantity) (c j : ℕ) (x : Parts) (js : List ℕ) (xs : List Parts) → length js ≡ length xs
-    → number_forms q c (js ++ j ∷ []) (xs ++ x ∷ []) ≡ number_forms q c js xs ++ SaysNumber q c j x ∷ []
-number_snoc q c j x [] [] e = refl
-number_snoc q c j x [] (y ∷ ys) e = absurd (omega (arith, e))
-number_snoc q c j x (i ∷ js) [] e = absurd (omega (arith, e))
-number_snoc q c j x (i ∷ js) (y ∷ ys) e = ap (λ fs. SaysNumber q c i y ∷ fs) (number_snoc q c j x js ys (omega (arith, e)))
+-- the components from one on
+pub component_here : (m c : ℕ) → c < m → drop c (range_with_len 0 m) ≡ c ∷ drop (c + 1) (range_with_len 0 m)
+component_here m c p = drop_more (range_with_len 0 m) c 0 (subst (λ n. c < n) (sym (length-range_with_len 0 m)) p)
+    ∙ ap (λ k. k ∷ drop (c + 1) (range_with_len 0 m)) (get_or-range_with_len 0 m c 0 p ∙ zero-add c)
 
-module _ (T : Frame) (q : Quantity) (k : ℕ) (js : List ℕ) (old : Left) where
-  -- the first `i` numbers were read, whatever stands after them
-  pub record NumbersSoFar (i : ℕ) (xs : List Parts) (left : Left) : Type 0 where
-    pub count : length xs ≡ i
-    pub read : (rest : List Slot) (stage : Stage) → Reads T (At (map (ANumber q k) js ++ rest) stage) old
-        (Ok (taken (number_forms q k (take i js) xs) (At (map (ANumber q k) (drop i js) ++ rest) stage) left))
-
-  pub numbers_none : NumbersSoFar 0 [] old
-  numbers_none = record { count = refl; read = λ rest stage. reads_none T (At (map (ANumber q k) js ++ rest) stage) old }
-
-module _ {T : Frame} {q : Quantity} {k : ℕ} {js : List ℕ} {old : Left} {i : ℕ} {xs : List Parts} {left : Left} (p : i < length js)
-    (S : NumbersSoFar T q k js old i xs left) {j : ℕ} (is : get_or js i 0 ≡ j) where
-  here : drop i js ≡ j ∷ drop (i + 1) js
-  here = drop_more js i 0 p ∙ ap (λ j. j ∷ drop (i + 1) js) is
-
-  at_here : (rest : List Slot) (stage : Stage) → Reads T (At (map (ANumber q k) js ++ rest) stage) old
-      (Ok (taken (number_forms q k (take i js) xs) (At (ANumber q k j ∷ map (ANumber q k) (drop (i + 1) js) ++ rest) stage) left))
-  at_here rest stage = subst (λ is. Reads T (At (map (ANumber q k) js ++ rest) stage) old
-      (Ok (taken (number_forms q k (take i js) xs) (At (map (ANumber q k) is ++ rest) stage) left))) here (S.read rest stage)
-
-  pub numbers_next : (x : Parts) (new : Left) → ((ss : List Slot) (stage : Stage) → Reads T (At (ANumber q k j ∷ ss) stage) left
-      (Ok (taken (SaysNumber q k j x ∷ []) (At ss stage) new))) → NumbersSoFar T q k js old (i + 1) (xs ++ x ∷ []) new
-  numbers_next x new said = record {
-    count = length-append xs (x ∷ [])
-        ∙ ap (λ n. n + 1) S.count;
-    read = λ rest stage. subst (λ fs. Reads T (At (map (ANumber q k) js ++ rest) stage) old
-        (Ok (taken fs (At (map (ANumber q k) (drop (i + 1) js) ++ rest) stage) new))) forms
-        (reads_on T (At (map (ANumber q k) js ++ rest) stage) old
-        (taken (number_forms q k (take i js) xs) (At (ANumber q k j ∷ map (ANumber q k) (drop (i + 1) js) ++ rest) stage) left)
-        (Ok (taken (SaysNumber q k j x ∷ []) (At (map (ANumber q k) (drop (i + 1) js) ++ rest) stage) new)) (at_here rest stage)
-        (said (map (ANumber q k) (drop (i + 1) js) ++ rest) stage));
-  }
-    where
-      same : length (take i js) ≡ length xs
-      same = omega (arith, length-take i js, S.count)
-
-      forms : number_forms q k (take i js) xs ++ SaysNumber q k j x ∷ [] ≡ number_forms q k (take (i + 1) js) (xs ++ x ∷ [])
-      forms = sym (number_snoc q k j x (take i js) xs same)
-          ∙ ap (λ is. number_forms q k is (xs ++ x ∷ [])) (sym (take_more js i 0 p ∙ ap (λ j. take i js ++ j ∷ []) is))
-
-  pub numbers_fault : (fault : ProofText) → ((ss : List Slot) (stage : Stage) → Reads T (At (ANumber q k j ∷ ss) stage) left (Err fault))
-      → (rest : List Slot) (stage : Stage) → Reads T (At (map (ANumber q k) js ++ rest) stage) old (Err fault)
-  numbers_fault fault said rest stage =
-      reads_on T (At (map (ANumber q k) js ++ rest) stage) old
-      (taken (number_forms q k (take i js) xs) (At (ANumber q k j ∷ map (ANumber q k) (drop (i + 1) js) ++ rest) stage) left) (Err fault)
-      (at_here rest stage) (said (map (ANumber q k) (drop (i + 1) js) ++ rest) stage)
-
-pub numbers_done : {T : Frame} {q : Quantity} {k : ℕ} {js : List ℕ} {old : Left} {i : ℕ} {xs : List Parts} {left : Left} → i ≡ length js
-    → NumbersSoFar T q k js old i xs left → (rest : List Slot) (stage : Stage)
-    → Reads T (At (map (ANumber q k) js ++ rest) stage) old (Ok (taken (number_forms q k js xs) (At rest stage) left))
-numbers_done {T} {q} {k} {js} {old} {i} {xs} {left} e S rest stage =
-    subst (λ is. Reads T (At (map (ANumber q k) js ++ rest) stage) old (Ok (taken (number_forms q k is xs) (At rest stage) left))) (take_end js i e)
-    (subst (λ is. Reads T (At (map (ANumber q k) js ++ rest) stage) old
-    (Ok (taken (number_forms q k (take i js) xs) (At (map (ANumber q k) is ++ rest) stage) left))) (drop_end js i e) (S.read rest stage))
-
--- the line of a number
-module _ (T : Frame) (q : Quantity) (k j : ℕ) (left : Left) (row : Row) (rows : List Row) (end : ℕ)
-    (starts : left ≡ record { rows = row ∷ rows; end = end })
-    (ss : List Slot) (stage : Stage) where
-  pub number_read : (x : Parts) → number_line T q k j (words_of row.text) ≡ Ok (SaysNumber q k j x)
-      → Reads T (At (ANumber q k j ∷ ss) stage) left (Ok (taken (SaysNumber q k j x ∷ []) (At ss stage) (record { rows = rows; end = end })))
-  unfolding slot_line
-  number_read x e =
-      subst (λ l. Reads T (At (ANumber q k j ∷ ss) stage) l (Ok (taken (SaysNumber q k j x ∷ []) (At ss stage) (record { rows = rows; end = end }))))
-      (sym starts) (reads_slot T (ANumber q k j) ss stage row rows end (SaysNumber q k j x) e)
-
-  pub number_bad : (kind : ProofKind) → number_line T q k j (words_of row.text) ≡ Err kind
-      → Reads T (At (ANumber q k j ∷ ss) stage) left (Err (faults.Line row.number kind))
-  unfolding slot_line
-  number_bad kind e = subst (λ l. Reads T (At (ANumber q k j ∷ ss) stage) l (Err (faults.Line row.number kind))) (sym starts)
-      (slot_bad T (ANumber q k j) ss stage row rows end kind e)
-
--- ---- the numbers of all components
-
-list_snoc : (q : Quantity) (c : ℕ) (js : List ℕ) (lists : List (List Parts)) (xs : List Parts)
-    → list_forms q c js (lists ++ xs ∷ []) ≡ list_forms q c js lists ++ number_forms q (c + length lists) js xs
-list_snoc q c js [] xs = append-nil (number_forms q c js xs) ∙ ap (λ c. number_forms q c js xs) (more c)
+-- all others, from 0 on
+pub others_start : (m : ℕ) (js : List ℕ) → others_from js 0 (m - 0) ≡ others m js
+unfolding others
+others_start m js = ap (others_from js 0) same
   where
-    more : (c : ℕ) → c ≡ c + 0
-    more c = omega arith
-list_snoc q c js (ys ∷ lists) xs =
-    ap (λ fs. number_forms q c js ys ++ fs)
-    (list_snoc q (suc c) js lists xs ∙ ap (λ i. list_forms q (suc c) js lists ++ number_forms q i js xs) (more c (length lists)))
-    ∙ sym (append_assoc (number_forms q c js ys) (list_forms q (suc c) js lists) (number_forms q (c + suc (length lists)) js xs))
+    same : m - 0 ≡ m
+    same = omega arith
+
+pub none_more : (m k : ℕ) (js : List ℕ) → k ≡ m → others_from js k (m - k) ≡ []
+none_more m k js e = ap (others_from js k) gone
   where
-    more : (c n : ℕ) → suc c + n ≡ c + suc n
-    more c n = omega arith
-
-module _ (T : Frame) (q : Quantity) (js : List ℕ) (old : Left) where
-  -- the numbers of the first `k` components were read, whatever stands after them
-  pub record ListsSoFar (k : ℕ) (lists : List (List Parts)) (left : Left) : Type 0 where
-    pub full : AreFull k (length js) lists
-    pub read : (rest : List Slot) (stage : Stage) → Reads T (At (due q T.components 0 js ++ rest) stage) old
-        (Ok (taken (list_forms q 0 js lists) (At (due q (T.components - k) k js ++ rest) stage) left))
-
-  pub lists_none : ListsSoFar 0 [] old
-  lists_none = record {
-    full = record { lists = refl; each = All-nil (λ ys. length ys ≡ length js) };
-    read = λ rest stage. subst (λ m. Reads T (At (due q T.components 0 js ++ rest) stage) old (Ok (taken [] (At (due q m 0 js ++ rest) stage) old))) whole
-        (reads_none T (At (due q T.components 0 js ++ rest) stage) old);
-  }
-    where
-      whole : T.components ≡ T.components - 0
-      whole = omega arith
-
-module _ {T : Frame} {q : Quantity} {js : List ℕ} {old : Left} {k : ℕ} {lists : List (List Parts)} {left : Left} (p : k < T.components)
-    (S : ListsSoFar T q js old k lists left) where
-  more : T.components - k ≡ suc (T.components - (k + 1))
-  more = omega arith
-
-  at_list : (rest : List Slot) (stage : Stage) → Reads T (At (due q T.components 0 js ++ rest) stage) old
-      (Ok (taken (list_forms q 0 js lists) (At (map (ANumber q k) js ++ (due q (T.components - (k + 1)) (k + 1) js ++ rest)) stage) left))
-  at_list rest stage = subst (λ ss. Reads T (At (due q T.components 0 js ++ rest) stage) old (Ok (taken (list_forms q 0 js lists) (At ss stage) left)))
-      (ap (λ m. due q m k js ++ rest) more ∙ append_assoc (map (ANumber q k) js) (due q (T.components - (k + 1)) (suc k) js) rest
-      ∙ ap (λ i. map (ANumber q k) js ++ (due q (T.components - (k + 1)) i js ++ rest)) (sym (add-one k)))
-      (S.read rest stage)
-
-  pub lists_next : (xs : List Parts) (new : Left) → length xs ≡ length js
-      → ((rest : List Slot) (stage : Stage) → Reads T (At (map (ANumber q k) js ++ rest) stage) left
-      (Ok (taken (number_forms q k js xs) (At rest stage) new))) → ListsSoFar T q js old (k + 1) (lists ++ xs ∷ []) new
-  lists_next xs new count R = record {
-    full = record {
-      lists = length-append lists (xs ∷ [])
-          ∙ ap (λ n. n + 1) S.full.lists;
-      each = All-push (λ ys. length ys ≡ length js) lists xs S.full.each count;
-    };
-    read = λ rest stage. subst (λ fs. Reads T (At (due q T.components 0 js ++ rest) stage) old
-        (Ok (taken fs (At (due q (T.components - (k + 1)) (k + 1) js ++ rest) stage) new))) forms
-        (reads_on T (At (due q T.components 0 js ++ rest) stage) old
-        (taken (list_forms q 0 js lists) (At (map (ANumber q k) js ++ (due q (T.components - (k + 1)) (k + 1) js ++ rest)) stage) left)
-        (Ok (taken (number_forms q k js xs) (At (due q (T.components - (k + 1)) (k + 1) js ++ rest) stage) new)) (at_list rest stage)
-        (R (due q (T.components - (k + 1)) (k + 1) js ++ rest) stage));
-  }
-    where
-      forms : list_forms q 0 js lists ++ number_forms q k js xs ≡ list_forms q 0 js (lists ++ xs ∷ [])
-      forms = ap (λ i. list_forms q 0 js lists ++ number_forms q i js xs) (sym (zero-add (length lists) ∙ S.full.lists))
-          ∙ sym (list_snoc q 0 js lists xs)
-
-  pub lists_fault : (fault : ProofText) → ((rest : List Slot) (stage : Stage) → Reads T (At (map (ANumber q k) js ++ rest) stage) left (Err fault))
-      → (rest : List Slot) (stage : Stage) → Reads T (At (due q T.components 0 js ++ rest) stage) old (Err fault)
-  lists_fault fault R rest stage =
-      reads_on T (At (due q T.components 0 js ++ rest) stage) old
-      (taken (list_forms q 0 js lists) (At (map (ANumber q k) js ++ (due q (T.components - (k + 1)) (k + 1) js ++ rest)) stage) left) (Err fault)
-      (at_list rest stage) (R (due q (T.components - (k + 1)) (k + 1) js ++ rest) stage)
-
-pub lists_done : {T : Frame} {q : Quantity} {js : List ℕ} {old : Left} {k : ℕ} {lists : List (List Parts)} {left : Left} → k ≡ T.components
-    → ListsSoFar T q js old k lists left → (rest : List Slot) (stage : Stage)
-    → Reads T (At (due q T.components 0 js ++ rest) stage) old (Ok (taken (list_forms q 0 js lists) (At rest stage) left))
-lists_done {T} {q} {js} {old} {k} {lists} {left} e S rest stage =
-    subst (λ m. Reads T (At (due q T.components 0 js ++ rest) stage) old (Ok (taken (list_forms q 0 js lists) (At (due q m k js ++ rest) stage) left))) gone
-    (S.read rest stage)
-  where
-    gone : T.components - k ≡ 0
+    gone : m - k ≡ 0
     gone = omega arith
+
+-- no hypothesis is kept in another version
+pub kept_none : (T : Frame) (v : ℕ) (js : List ℕ) → v ≢ 2 → kept T v js ≡ []
+kept_none T v js n = by (v == 2) refl
+  where
+    by : (b : Bool) → (v == 2) ≡ b → (if b then T.others js else []) ≡ []
+    by true e = absurd (n ((Decides-eqb v 2).0 e))
+    by false e = refl

@@ -1,60 +1,20 @@
--- Documents of evidence: what each line says, and which line may be where.
-use Rattle.std.specs.Prelude.{ℕ, ◌+◌, ◌==◌, ◌&&◌, if◌then◌else◌, List, [], ◌∷◌, map, Result, Ok, Err, codes}
-use Rattle.std.specs.Fmt.{decimal}
+-- Documents of evidence: which line may be where, and what they say.
+use Rattle.std.specs.Prelude.{ℕ, ◌==◌, if◌then◌else◌, List, [], map}
 use Rattle.std.specs.List.{range_with_len}
-use Rattle.std.specs.Str.{bytes_eq}
 use Rattle.field_core.specs.Kind.{Parts}
-use Rattle.text_lines.specs.Words.{only_word, only_three}
-use Rattle.text_lines.specs.Forms.{Form, Say, Line, Then, Many, Kinds, Leaf}
-use Rattle.text_lines.specs.Kinds.{words_after, each_of}
+use Rattle.text_lines.specs.Forms.{Form, Say, Line, Then, Many}
+use Rattle.text_lines.specs.Kinds.{each_of}
 use Rattle.evidence_check.specs.declared.fault.ProofKind.{ProofKind}
-use Rattle.evidence_check.specs.declared.fault.ProofKind.TheVariants.{Unexpected, Ended, WordCount, Version, UnknownName, Number}
 use Rattle.evidence_check.specs.declared.quantity.Quantity.{Quantity}
 use Rattle.evidence_check.specs.declared.quantity.Quantity.TheVariants.{Flow, Exit}
 use Rattle.evidence_check.specs.EvidenceParts.{StepParts, KeepParts}
-use Rattle.evidence_check.specs.Documents.{Words, Frame, found_or, place_fault, keyword}
+use Rattle.evidence_check.specs.DocumentLines.{Words, Frame, version_line, step_line, number_line, keep_line, end_line}
 
 -- what a document says
 pub record Said : Type 0 where
   pub version : ℕ
   pub steps : List StepParts
   pub keeps : List KeepParts
-
--- what is wrong with a line that may not be there, and with a document that ends before `end`
-abbrev pub kinds : Kinds ProofKind
-kinds = record { unexpected = Unexpected; ended = Ended }
-
--- ---- lines: the first word, the number of words, and then the words from left to right
-
--- a line of this first word, and of one word after it
-abbrev pub one_after : {A : Type 0} → List ℕ → (List ℕ → Result A ProofKind) → Leaf Words ProofKind A
-one_after first f = words_after first (λ rest. found_or (only_word rest) WordCount f)
-
-abbrev pub version_line : Leaf Words ProofKind ℕ
-version_line = one_after (codes "evidence") (λ v. if bytes_eq v (codes "1") then Ok 1 else (if bytes_eq v (codes "2") then Ok 2 else Err Version))
-
--- the line of a step, by the name of its hypothesis
-abbrev pub step_line : Frame → Leaf Words ProofKind ℕ
-step_line F = one_after (codes "step") (λ name. found_or (F.position name) UnknownName (λ j. Ok j))
-
--- the line of a number of this component and this hypothesis
-abbrev pub number_line : Frame → Quantity → ℕ → ℕ → Leaf Words ProofKind Parts
-number_line F q c h = words_after (keyword q) (λ rest. found_or (only_three rest) WordCount (λ ws.
-    if bytes_eq ws.0 (decimal (c + 1)) && bytes_eq ws.1 (F.name h) then found_or (F.number ws.2) Number (λ x. Ok x) else Err (place_fault q)))
-
--- the line of a keep of this hypothesis
-abbrev pub keep_line : Frame → ℕ → Leaf Words ProofKind ℕ
-keep_line F h = one_after (codes "keep") (λ name. if bytes_eq name (F.name h) then Ok h else Err Unexpected)
-
--- no word
-abbrev pub nothing : Words → Result (Unit {0}) ProofKind
-nothing [] = Ok tt
-nothing (w ∷ ws) = Err WordCount
-
-abbrev pub end_line : Leaf Words ProofKind (Unit {0})
-end_line = words_after (codes "end") nothing
-
--- ---- documents
 
 -- lines that say something of `A`
 abbrev pub Lines : Type 0 → Type 1

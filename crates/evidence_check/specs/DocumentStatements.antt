@@ -1,10 +1,11 @@
 -- What documents of evidence promise.
-use Rattle.std.specs.Prelude.{◌≡◌, ◌≢◌, ◌⊎◌, ◌↔◌, ℕ, List, [], Some, Result, Ok, Err, All}
+use Rattle.std.specs.Prelude.{◌≡◌, ◌≢◌, ◌⊎◌, ◌↔◌, ℕ, List, map, Some, Result, Ok, Err, All}
 use Rattle.field_core.specs.Kind.{Parts}
 use Rattle.std.specs.List.{AllByRecursion}
-use Rattle.text_lines.specs.Lines.{rows_of, words_in, end_of}
-use Rattle.text_lines.specs.Languages.{FaultAt, reading, IsDocument}
-use Rattle.text_lines.specs.LanguageStatements.{HasFault as HasFirstFault, IsWhereNoneGoesOn, IsUnfinished}
+use Rattle.text_lines.specs.Lines.{rows_of, end_of}
+use Rattle.text_lines.specs.Faults.{FaultAt}
+use Rattle.text_lines.specs.Forms.{Seen, words_seen, reading, IsDocument}
+use Rattle.text_lines.specs.FormStatements.{IsWhereNoneGoesOn, IsUnfinished, IsFirstWrong, NoneGoesOnIsFault as FirstIsFault}
 use Rattle.text_lines.specs.Spelling.{text_of, IsLine}
 use Rattle.case_model.specs.Content.{Content}
 use Rattle.case_numbers.specs.Numbers.{Numbers, numbers_of, IsStoredIn}
@@ -13,31 +14,29 @@ use Rattle.evidence_check.specs.declared.fault.ProofKind.{ProofKind}
 use Rattle.evidence_check.specs.declared.fault.ProofKind.TheVariants.{Ended}
 use Rattle.evidence_check.specs.EvidenceParts.{StepParts, KeepParts}
 use Rattle.evidence_check.specs.EvidenceView.{FitsCase, IsEvidenceFor, version_of, steps_of, keeps_of}
-use Rattle.evidence_check.specs.Documents.{Frame, Form, evidence_forms, evidence_lines, AtVersion, Place, At, evidence_language}
+use Rattle.evidence_check.specs.DocumentLines.{Words, Frame, kinds}
+use Rattle.evidence_check.specs.Document.{Said, document}
+use Rattle.evidence_check.specs.EvidenceLines.{evidence_lines}
 use Rattle.evidence_check.specs.ReadView.{IsFrameFor}
 use Rattle.evidence_check.specs.NumberReading.{case_frame}
 
--- the place of the first line
-abbrev pub start : Place × List Form
-start = (At [] AtVersion, [])
-
 -- what a text denotes, or its first fault
-abbrev pub evidence_reading : Frame → List ℕ → Result (List Form) (FaultAt ProofKind)
-evidence_reading T bytes = reading (evidence_language T) start (rows_of bytes) (end_of bytes)
+abbrev pub evidence_reading : Frame → List ℕ → Result Said (FaultAt ProofKind)
+evidence_reading T bytes = reading kinds (document T) (words_seen (rows_of bytes)) (end_of bytes)
 
 -- ---- what a text says of a case
 
--- what the lines of a text denote for a case, one after another, or the first fault
-unfoldable pub case_reading : Content → List ℕ → Result (List Form) (FaultAt ProofKind)
+-- what the lines of a text denote for a case, or the first fault
+unfoldable pub case_reading : Content → List ℕ → Result Said (FaultAt ProofKind)
 case_reading c bytes = evidence_reading (case_frame (numbers_of c) c) bytes
 
--- what the lines of this evidence denote
-abbrev pub forms_of : Evidence → List Form
-forms_of v = evidence_forms (version_of v) (steps_of v) (keeps_of v)
+-- this evidence, as a document says it
+abbrev pub said_of : Evidence → Said
+said_of v = record { version = version_of v; steps = steps_of v; keeps = keeps_of v }
 
 -- the lines of a text denote this evidence
 abbrev pub SaysEvidence : Content → List ℕ → Evidence → Type 0
-SaysEvidence c bytes v = case_reading c bytes ≡ Ok (forms_of v)
+SaysEvidence c bytes v = case_reading c bytes ≡ Ok (said_of v)
 
 -- the first fault of a text, and what is wrong there: a line that denotes nothing at its place, after lines that denote something. Or lines that end
 -- too early
@@ -50,27 +49,28 @@ HasFault c bytes fault = case_reading c bytes ≡ Err fault
 abbrev pub CasesHaveFrames : Type 0
 CasesHaveFrames = (n : Numbers) (c : Content) → IsFrameFor n c (case_frame n c)
 
--- What is read of a text is what its lines denote, one after another.
+-- What is read of a text is what its lines denote.
 abbrev pub ReadingsAreDocuments : Type 0
 ReadingsAreDocuments =
-    (T : Frame) (bytes : List ℕ) (fs : List Form) → (evidence_reading T bytes ≡ Ok fs)
-    ↔ IsDocument (evidence_language T) start (words_in (rows_of bytes)) fs
+    (T : Frame) (bytes : List ℕ) (said : Said) → (evidence_reading T bytes ≡ Ok said) ↔ IsDocument (document T) (words_seen (rows_of bytes)) said
 
--- And the fault that is read is its first one: that of the first line that says nothing where it stands; or the lines end too early.
-abbrev pub FaultsAreBadLines : Type 0
-FaultsAreBadLines =
-    (T : Frame) (bytes : List ℕ) (fault : FaultAt ProofKind) → (evidence_reading T bytes ≡ Err fault)
-    ↔ HasFirstFault (evidence_language T) start (rows_of bytes) (end_of bytes) fault
+-- And the fault that is read is the first one: it is in the first line with which no document continues; or the lines end too early. This is of each
+-- frame with a number that is read from its text.
+abbrev pub FaultsAreFirst : Type 0
+FaultsAreFirst =
+    (T : Frame) (x : Parts) (bytes : List ℕ) → T.number (T.text x) ≡ Some x
+    → IsFirstWrong kinds (document T) (words_seen (rows_of bytes)) (end_of bytes)
+    × FirstIsFault kinds (document T) (words_seen (rows_of bytes)) (end_of bytes)
 
 -- Lines denote one evidence.
 abbrev pub LinesSayOneEvidence : Type 0
 LinesSayOneEvidence =
-    (c : Content) (v w : ℕ) (ss ts : List StepParts) (xs ys : List KeepParts) → FitsCase c v ss xs → FitsCase c w ts ys
-    → evidence_forms v ss xs ≡ evidence_forms w ts ys → (v ≡ w) × (ss ≡ ts) × (xs ≡ ys)
+    (T : Frame) (rows : List (Seen Words)) (a b : Said) → IsDocument (document T) rows a → IsDocument (document T) rows b → a ≡ b
 
 -- What is read of a text for a case is some evidence that fits the case.
 abbrev pub ReadingsAreEvidence : Type 0
-ReadingsAreEvidence = (c : Content) (bytes : List ℕ) (fs : List Form) → case_reading c bytes ≡ Ok fs → (v : Evidence) × IsEvidenceFor c v × (fs ≡ forms_of v)
+ReadingsAreEvidence =
+    (c : Content) (bytes : List ℕ) (said : Said) → case_reading c bytes ≡ Ok said → (v : Evidence) × IsEvidenceFor c v × (said ≡ said_of v)
 
 -- ---- the lines of evidence
 
@@ -84,12 +84,13 @@ pub record ArePrinted (T : Frame) (steps : List StepParts) (keeps : List KeepPar
   pub flows : All (λ s. All (All (IsPrinted T)) s.flows) steps
   pub exits : All (λ x. All (All (IsPrinted T)) x.exits) keeps
 
--- The lines of evidence that fits a case denote it.
+-- The lines of evidence that fits a case denote it, whatever their numbers are.
 abbrev pub LinesSayTheirEvidence : Type 0
 LinesSayTheirEvidence =
     (n : Numbers) (c : Content) (T : Frame) (v : ℕ) (ss : List StepParts) (xs : List KeepParts) → IsFrameFor n c T → FitsCase c v ss xs
     → ArePrinted T ss xs
-    → IsDocument (evidence_language T) start (evidence_lines T v ss xs) (evidence_forms v ss xs)
+    → (rows : List (Seen Words)) → map (λ row. row.line) rows ≡ evidence_lines T v ss xs
+    → IsDocument (document T) rows (record { version = v; steps = ss; keeps = xs })
 
 -- A stored number of a case is read from its text.
 abbrev pub StoredNumbersArePrinted : Type 0
@@ -101,13 +102,13 @@ StoredNumbersArePrinted = (n : Numbers) (c : Content) (x : Parts) → IsStoredIn
 abbrev pub FaultsAreWhereNoneGoesOn : Type 0
 FaultsAreWhereNoneGoesOn =
     (c : Content) (bytes : List ℕ) (fault : FaultAt ProofKind) → HasFault c bytes fault
-    → ((fault.kind ≢ Ended) × IsWhereNoneGoesOn (evidence_language (case_frame (numbers_of c) c)) start (rows_of bytes) fault.line)
-    ⊎ ((fault ≡ record { line = end_of bytes; kind = Ended }) × IsUnfinished (evidence_language (case_frame (numbers_of c) c)) start (rows_of bytes))
+    → ((fault.kind ≢ Ended) × IsWhereNoneGoesOn (document (case_frame (numbers_of c) c)) (words_seen (rows_of bytes)) fault.line)
+    ⊎ ((fault ≡ record { line = end_of bytes; kind = Ended }) × IsUnfinished (document (case_frame (numbers_of c) c)) (words_seen (rows_of bytes)))
 
 -- A line with which no document continues, where one continues with those before it, is that of the first fault.
 abbrev pub NoneGoesOnIsFault : Type 0
 NoneGoesOnIsFault =
-    (c : Content) (bytes : List ℕ) (number : ℕ) → IsWhereNoneGoesOn (evidence_language (case_frame (numbers_of c) c)) start (rows_of bytes) number
+    (c : Content) (bytes : List ℕ) (number : ℕ) → IsWhereNoneGoesOn (document (case_frame (numbers_of c) c)) (words_seen (rows_of bytes)) number
     → (kind : ProofKind) × HasFault c bytes (record { line = number; kind = kind })
 
 -- ---- the text of evidence

@@ -7,10 +7,10 @@ pub mod CheckSteps
 pub mod WrittenCheck
 pub mod CheckStatements
 pub mod CaseCheck
-pub mod Documents
+pub mod DocumentLines
+pub mod Document
+pub mod EvidenceLines
 pub mod NumberTexts
 pub mod ReadView
 pub mod NumberReading
 pub mod DocumentStatements
-pub mod Document
-pub mod FormStatements

@@ -14,7 +14,7 @@ use Rattle.case_model.specs.Names.{position_of}
 use Rattle.case_model.specs.Content.{Content}
 use Rattle.case_numbers.specs.Numbers.{Numbers, in_fractions, in_quotients}
 use Rattle.evidence_check.specs.Evidence.{others}
-use Rattle.evidence_check.specs.Documents.{Frame}
+use Rattle.evidence_check.specs.DocumentLines.{Frame}
 use Rattle.evidence_check.specs.NumberTexts.{number_text}
 
 -- what is before the first such byte and after it, if there is one

@@ -10,11 +10,10 @@ ghost use Rattle.evidence_check.specs.CaseCheck.{
   CheckedAreRejected,
   CheckedAreAllRejected,
 };
-ghost use Rattle.evidence_check.specs.DocumentStatements.{CasesHaveFrames, ReadingsAreDocuments, FaultsAreBadLines, ReadingsAreEvidence};
+ghost use Rattle.evidence_check.specs.DocumentStatements.{CasesHaveFrames, ReadingsAreDocuments, FaultsAreFirst, ReadingsAreEvidence};
 ghost use Rattle.evidence_check.specs.DocumentStatements.{LinesSayOneEvidence};
 ghost use Rattle.evidence_check.specs.DocumentStatements.{LinesSayTheirEvidence, StoredNumbersArePrinted, EvidenceTextsSayIt};
 ghost use Rattle.evidence_check.specs.DocumentStatements.{FaultsAreWhereNoneGoesOn, NoneGoesOnIsFault};
-ghost use Rattle.evidence_check.specs.FormStatements.{FormsReadAlike, FormsSayTheSame};
 
 use field_core::Number;
 
@@ -53,15 +52,15 @@ pub fn cases_have_frames()
     ensures { CasesHaveFrames }
 {}
 
-/// What is read of a text is what its lines denote, and else its first fault is that of the first line that denotes nothing at
-/// its place. What is read for a case is some evidence that fits the case.
+/// What is read of a text is what its lines denote, and else its first fault is in the first line with which no document
+/// continues, or the text ends too early. What is read for a case is some evidence that fits the case.
 pub fn readings_are_documents()
     ensures says { ReadingsAreDocuments }
-    ensures fault { FaultsAreBadLines }
+    ensures fault { FaultsAreFirst }
     ensures evidence { ReadingsAreEvidence }
 {}
 
-/// The lines of evidence that fits a case denote no other evidence that fits it.
+/// Lines denote at most one evidence.
 pub fn lines_say_one_evidence()
     ensures { LinesSayOneEvidence }
 {}
@@ -78,11 +77,4 @@ pub fn lines_say_their_evidence()
 pub fn first_faults_end_documents()
     ensures there { FaultsAreWhereNoneGoesOn }
     ensures line { NoneGoesOnIsFault }
-{}
-
-/// The form of documents is the language of evidence: lines say by the one what they denote by the other. Of each text both
-/// read the same, or the same first fault on the same line.
-pub fn documents_are_forms()
-    ensures read { FormsReadAlike }
-    ensures said { FormsSayTheSame }
 {}

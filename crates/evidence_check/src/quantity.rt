@@ -1,6 +1,6 @@
 //! What the numbers of evidence are.
 ghost use Rattle.std.specs.Prelude.{◌≡◌};
-ghost use Rattle.evidence_check.specs.Documents.{keyword, place_fault};
+ghost use Rattle.evidence_check.specs.DocumentLines.{keyword, place_fault};
 
 use crate::ProofKind;
 

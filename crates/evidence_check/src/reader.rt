@@ -3,19 +3,18 @@ ghost use Rattle.std.specs.Prelude.{map, IfOk};
 ghost use Rattle.field_core.specs.Answers.{IsUnless, told_as};
 ghost use Rattle.field_core.specs.Kind.{ok_map};
 ghost use Rattle.case_model.specs.CaseView.{content};
-ghost use Rattle.evidence_check.specs.EvidenceView.{step_parts, keep_parts, FitsCase, IsEvidenceFor};
-ghost use Rattle.evidence_check.specs.Documents.{evidence_forms};
+ghost use Rattle.evidence_check.specs.EvidenceView.{step_parts, keep_parts, IsEvidenceFor};
 ghost use Rattle.evidence_check.specs.NumberReading.{case_frame};
-ghost use Rattle.evidence_check.specs.ReadView.{proof_fault};
-ghost use Rattle.evidence_check.specs.DocumentStatements.{evidence_reading, case_reading, forms_of};
+ghost use Rattle.evidence_check.specs.ReadView.{proof_fault, said_in};
+ghost use Rattle.evidence_check.specs.DocumentStatements.{evidence_reading, case_reading, said_of};
 ghost use Rattle.evidence_check.specs.declared.fault.ProofText.TheVariants.{NoMemory};
 
-use crate::document::{end, kept, next_line, steps};
+use crate::document::{end, kept, nothing_after, steps, version};
 use crate::loading::EvidenceNumber;
-use crate::{Evidence, ProofText, Steps, rules};
+use crate::{Evidence, ProofText, Steps};
 use case_model::Case;
 use std::alloc::Global;
-use text_lines::Lines;
+use text_lines::Ahead;
 
 /// Returns the evidence that a text denotes, in these numbers.
 fn read_in<F: EvidenceNumber>(
@@ -23,21 +22,15 @@ fn read_in<F: EvidenceNumber>(
     case: &Case,
     bytes: &[u8],
 ) -> Result<Steps<F>, ProofText>
-    ensures said { IsUnless NoMemory (ok_map (λ v. evidence_forms v.version (map (step_parts F.parts) v.steps)
-        (map (keep_parts F.parts) v.keeps)) result)
+    ensures { IsUnless NoMemory (ok_map (said_in F.parts) result)
         (told_as proof_fault (evidence_reading (case_frame F.numbers (content case.now)) bytes.now)) }
-    ensures fits { IfOk result (λ v. FitsCase (content case.now) v.version (map (step_parts F.parts) v.steps) (map
-        (keep_parts F.parts) v.keeps)) }
 {
-    let mut lines = Lines::new(bytes);
-    let first = next_line(&mut lines)?;
-    let version = match rules::version(&first) {
-        Ok(version) => version,
-        Err(kind) => return Err(ProofText::Line(first.number, kind)),
-    };
-    let (steps, line) = steps(alloc, &mut lines, case)?;
-    let (keeps, line) = kept(alloc, &mut lines, case, version, steps.as_slice(), line)?;
-    end(&mut lines, &line)?;
+    let mut lines = Ahead::new(bytes);
+    let version = version(&mut lines)?;
+    let steps = steps(alloc, &mut lines, case)?;
+    let keeps = kept(alloc, &mut lines, case, version, steps.as_slice())?;
+    end(&mut lines)?;
+    nothing_after(&lines)?;
     Ok(Steps {
         version,
         steps,
@@ -55,7 +48,7 @@ fn read_in<F: EvidenceNumber>(
 /// the first word is tested first, then the number of words, then what follows from left to right. The evidence is in fractions
 /// exactly if the case is plain, and fits the case.
 pub fn read(alloc: Global, case: &Case, bytes: &[u8]) -> Result<Evidence, ProofText>
-    ensures read { IsUnless NoMemory (ok_map forms_of result) (told_as proof_fault (case_reading (content case.now) bytes.now)) }
+    ensures read { IsUnless NoMemory (ok_map said_of result) (told_as proof_fault (case_reading (content case.now) bytes.now)) }
     ensures fits { IfOk result (IsEvidenceFor (content case.now)) }
 {
     if case.is_plain() {

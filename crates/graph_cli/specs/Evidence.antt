@@ -11,7 +11,7 @@ use Rattle.evidence_check.specs.declared.verdict.CheckWide.{CheckWide}
 use Rattle.evidence_check.specs.declared.verdict.Verdict.TheVariants.{Yes}
 use Rattle.evidence_check.specs.EvidenceView.{version_of, steps_of, keeps_of, IsEvidenceFor}
 use Rattle.evidence_check.specs.CaseCheck.{case_check, verdict_of}
-use Rattle.evidence_check.specs.Documents.{evidence_lines}
+use Rattle.evidence_check.specs.EvidenceLines.{evidence_lines}
 use Rattle.evidence_check.specs.NumberReading.{case_frame}
 use Rattle.evidence.specs.CaseFlows.{case_flows}
 use Rattle.evidence.specs.FlowRun.{WideStep}

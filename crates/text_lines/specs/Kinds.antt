@@ -1,8 +1,8 @@
 -- Kinds of lines, by their words, and forms that are often used.
-use Rattle.std.specs.Prelude.{ℕ, List, [], ◌∷◌, ◌++◌, Option, Some, None, Result, Err}
+use Rattle.std.specs.Prelude.{ℕ, List, [], ◌∷◌, ◌++◌, Option, Some, None, Result, Ok, Err}
 use Rattle.std.specs.Option.{option_map}
 use Rattle.text_lines.specs.Words.{words_of, words_behind}
-use Rattle.text_lines.specs.Forms.{Leaf, Form, Say, Then, Many, Kinds}
+use Rattle.text_lines.specs.Forms.{Leaf, Form, Say, Then, May, Many, Kinds}
 
 -- a line with this first word, and what its other words say
 abbrev pub words_after : {K A : Type 0} → List ℕ → (List (List ℕ) → Result A K) → Leaf (List (List ℕ)) K A
@@ -25,6 +25,16 @@ or_line l m line = either_of (l line) (m line)
 abbrev pub expected : {K A : Type 0} → Kinds K → Option (Result A K) → Result A K
 expected U (Some r) = r
 expected U None = Err U.unexpected
+
+-- what a line says if it is of one kind
+abbrev pub if_any : {K A : Type 0} → Option (Result A K) → Result (Option A) K
+if_any (Some (Ok a)) = Ok (Some a)
+if_any (Some (Err k)) = Err k
+if_any None = Ok None
+
+-- a line of this kind, if the next one is
+abbrev pub maybe : {L K A : Type 0} → Leaf L K A → Form L K (Option A)
+maybe l = May l (λ a. Say (Some a)) (Say None)
 
 -- lines of one kind, any number of them, after those that said these values
 abbrev pub more_lines : {L K A : Type 0} → Leaf L K A → List A → Form L K (List A)

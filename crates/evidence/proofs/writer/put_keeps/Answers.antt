@@ -1,3 +1,4 @@
+use Rattle.evidence_check.specs.NumberReading.{case_frame}
 use Rattle.std.proofs.Common.{◌<◌, ◌≤◌, map, length, arith}
 use Rattle.std.proofs.lemmas.List.{length-map}
 use Rattle.case_model.specs.CaseView.{content}
@@ -25,7 +26,7 @@ loop-keep-preserved g c =
     let parts = g.F.Number.parts in
     let keeps = c.args.keeps.now in
     let within : c.loop-keep.keep-index < length keeps = omega arith in
-    keeps_next g.F.CaseNumber.numbers (content c.args.case.now) (hypotheses_of c.args.steps.now) (map (keep_parts parts) keeps) c.loop-keep.keep-index
+    keeps_next (case_frame g.F.CaseNumber.numbers (content c.args.case.now)) (hypotheses_of c.args.steps.now) (map (keep_parts parts) keeps) c.loop-keep.keep-index
     (keep_parts parts c.keep-item.result) _ c.loop-keep.text c.put_keep.new.text
     (mapped_within (keep_parts parts) keeps c.loop-keep.keep-index within)
     (mapped_item (keep_parts parts) keeps c.loop-keep.keep-index c.keep-item.result within c.keep-item.is) c.loop-keep.invariant c.in_ok-put_keep.ensures
@@ -34,5 +35,5 @@ pub returns : goal.returns
 returns g c =
     let keeps = map (keep_parts g.F.Number.parts) c.args.keeps.now in
     let end : length keeps ≤ c.loop-keep.keep-index = omega (arith, length-map c.args.keeps.now (keep_parts g.F.Number.parts)) in
-    keeps_end g.F.CaseNumber.numbers (content c.args.case.now)
+    keeps_end (case_frame g.F.CaseNumber.numbers (content c.args.case.now))
     (hypotheses_of c.args.steps.now) keeps c.loop-keep.keep-index _ c.loop-keep.text end c.loop-keep.invariant

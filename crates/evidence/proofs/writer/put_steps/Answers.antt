@@ -4,11 +4,13 @@ use Rattle.case_model.specs.CaseView.{content}
 use Rattle.evidence_check.specs.declared.quantity.Quantity.TheVariants.{Flow}
 use Rattle.evidence_check.specs.EvidenceParts.{AreFull}
 use Rattle.evidence_check.specs.EvidenceView.{hypotheses_of, step_parts}
-use Rattle.evidence_check.specs.Documents.{SaysStep, list_forms}
+use Rattle.evidence_check.specs.DocumentLines.{step_words}
+use Rattle.evidence_check.specs.EvidenceLines.{list_lines}
 use Rattle.evidence_check.proofs.ReadAnswers.{known_at}
 use Rattle.evidence_check.proofs.StepsAnswers.{take_count}
 use Rattle.evidence_check.proofs.Hypotheses.{same_hypotheses}
-use Rattle.evidence.specs.EvidenceText.{forms_text}
+use Rattle.text_lines.specs.Spelling.{text_of}
+use Rattle.evidence_check.specs.NumberReading.{case_frame}
 use Rattle.evidence.proofs.WriterAnswers.{mapped_item, mapped_within, hypotheses_before, known_before, flows_at, steps_next, steps_end}
 use Rattle.evidence.proofs.writer.put_steps.Goals as goal
 
@@ -36,15 +38,15 @@ loop-s-preserved g c =
     let k = content c.args.case.now in
     let steps = c.args.steps.now in
     let s = c.index-steps-s.result in
-    steps_next n k (map (step_parts parts) steps) (hypotheses_of steps) c.loop-s.s (step_parts parts s) _ c.loop-s.text c.put_step.new.text
+    steps_next (case_frame n k) (map (step_parts parts) steps) (hypotheses_of steps) c.loop-s.s (step_parts parts s) _ c.loop-s.text c.put_step.new.text
     (same_hypotheses parts steps)
     (mapped_within (step_parts parts) steps c.loop-s.s c.loop-s-test.true)
     (mapped_item (step_parts parts) steps c.loop-s.s s c.loop-s-test.true c.index-steps-s.is) c.loop-s.invariant
-    (c.in_ok-put_step.ensures ∙ ap (λ js. c.loop-s.text ++ forms_text n k (SaysStep s.hypothesis ∷ list_forms Flow 0 js (map (map parts) s.flows)))
+    (c.in_ok-put_step.ensures ∙ ap (λ js. c.loop-s.text ++ text_of (step_words (case_frame n k) s.hypothesis ∷ list_lines (case_frame n k) Flow 0 js (map (map parts) s.flows)))
     (hypotheses_before steps c.loop-s.s))
 
 pub returns : goal.returns
 returns g c =
     let steps = map (step_parts g.F.Number.parts) c.args.steps.now in
     let end : length steps ≤ c.loop-s.s = omega (arith, c.loop-s-test.false, length-map c.args.steps.now (step_parts g.F.Number.parts)) in
-    steps_end g.F.CaseNumber.numbers (content c.args.case.now) steps (hypotheses_of c.args.steps.now) c.loop-s.s _ c.loop-s.text end c.loop-s.invariant
+    steps_end (case_frame g.F.CaseNumber.numbers (content c.args.case.now)) steps (hypotheses_of c.args.steps.now) c.loop-s.s _ c.loop-s.text end c.loop-s.invariant

@@ -2,9 +2,10 @@ use Rattle.std.proofs.Common.{◌<◌, ◌∙◌, ◌++◌, sym, ap, ap₂, subs
 use Rattle.std.specs.List.{All}
 use Rattle.case_model.specs.CaseView.{content}
 use Rattle.evidence_check.specs.EvidenceView.{hypotheses_of, step_parts, keep_parts}
-use Rattle.evidence_check.specs.Documents.{step_forms, keep_forms}
+use Rattle.evidence_check.specs.EvidenceLines.{step_lines, keep_lines}
 use Rattle.evidence_check.proofs.Hypotheses.{same_hypotheses}
-use Rattle.evidence.specs.EvidenceText.{forms_text}
+use Rattle.text_lines.specs.Spelling.{text_of}
+use Rattle.evidence_check.specs.NumberReading.{case_frame}
 use Rattle.evidence.proofs.WriterAnswers.{all_known, whole_text}
 use Rattle.evidence.proofs.writer.written.Goals as goal
 
@@ -28,10 +29,10 @@ returns g c =
     let v = c.args.proof.now in
     let ss = map (step_parts parts) v.steps in
     let xs = map (keep_parts parts) v.keeps in
-    whole_text n k v.version ss xs c.new-text.result c.put_version.new.text c.put_steps.new.text c.put_keeps.new.text c.append.new.self c.new-text.ensures
+    whole_text (case_frame n k) v.version ss xs c.new-text.result c.put_version.new.text c.put_steps.new.text c.put_keeps.new.text c.append.new.self c.new-text.ensures
     c.in_ok-put_version.ensures
-    (c.in_ok-put_steps.ensures ∙ ap (λ ys. c.put_version.new.text ++ forms_text n k (step_forms [] (map (step_parts parts) ys))) c.as_slice-steps.ensures)
-    (c.in_ok-put_keeps.ensures ∙ ap₂ (λ ys zs. c.put_steps.new.text ++ forms_text n k (keep_forms (hypotheses_of ys) (map (keep_parts parts) zs)))
+    (c.in_ok-put_steps.ensures ∙ ap (λ ys. c.put_version.new.text ++ text_of (step_lines (case_frame n k) [] (map (step_parts parts) ys))) c.as_slice-steps.ensures)
+    (c.in_ok-put_keeps.ensures ∙ ap₂ (λ ys zs. c.put_steps.new.text ++ text_of (keep_lines (case_frame n k) (hypotheses_of ys) (map (keep_parts parts) zs)))
     c.as_slice-steps.ensures c.as_slice.ensures
-    ∙ ap (λ js. c.put_steps.new.text ++ forms_text n k (keep_forms js xs)) (same_hypotheses parts v.steps))
+    ∙ ap (λ js. c.put_steps.new.text ++ text_of (keep_lines (case_frame n k) js xs)) (same_hypotheses parts v.steps))
     c.in_ok-append.ensures.appended

@@ -1,84 +1,86 @@
-use Rattle.std.proofs.Common.{◌∙◌, ◌+◌, ◌<◌, sym, ap, subst, [], ◌∷◌, map, length, arith}
-use Rattle.std.proofs.lemmas.List.{map-append}
+use Rattle.std.proofs.Common.{◌≡◌, ◌∙◌, ◌+◌, ◌<◌, ◌≤◌, inl, inr, refl, sym, ap, subst, [], ◌∷◌, ◌++◌, drop, map, length, get_or, Some, None, Ok, Err, arith}
+use Rattle.std.specs.List.{All, range_with_len}
+use Rattle.std.proofs.lemmas.List.{map-append, drop_more, drop_all, length-map}
+use Rattle.std.proofs.lemmas.List.Elements.{All-push, All-nil}
+use Rattle.std.proofs.lemmas.List.FromFn.{length-range_with_len, get_or-range_with_len}
 use Rattle.std.proofs.lemmas.Simd.{map-map}
+use Rattle.text_lines.specs.Forms.{Line, Then, Say, Many}
+use Rattle.text_lines.specs.Kinds.{each_after, each_of, maybe}
+use Rattle.text_lines.specs.View.{row}
+use Rattle.text_lines.specs.Left.{Left, behind_first}
+use Rattle.text_lines.proofs.LineRuns.{first_row, no_row}
+use Rattle.text_lines.proofs.FormReads.{read_say}
 use Rattle.case_model.specs.CaseView.{content}
-use Rattle.evidence_check.specs.EvidenceView.{hypotheses_of, keep_parts}
-use Rattle.evidence_check.specs.NumberReading.{case_frame}
-use Rattle.evidence_check.specs.ReadView.{left_of, left_from}
+use Rattle.evidence_check.specs.declared.quantity.Quantity.TheVariants.{Flow, Exit}
 use Rattle.evidence_check.specs.declared.fault.ProofText.TheVariants as faults
+use Rattle.evidence_check.specs.DocumentLines.{Frame, kinds, version_line, step_line, number_line, keep_line, end_line}
+use Rattle.evidence_check.specs.Document.{component_numbers, numbers, named, step, keep, kept}
+use Rattle.evidence_check.specs.Evidence.{others}
+use Rattle.evidence_check.specs.EvidenceView.{hypotheses_of, step_parts, keep_parts}
+use Rattle.evidence_check.specs.NumberReading.{case_frame}
+use Rattle.evidence_check.specs.ReadView.{Reads}
+use Rattle.evidence_check.proofs.Hypotheses.{as_many, same_hypotheses}
+use Rattle.evidence_check.proofs.ReadAnswers.{Fails, Gives, handed, reads, line_given, line_fails, line_missing, then_fails, then_reads, next_fails, next_reads, none_left}
+use Rattle.evidence_check.proofs.ReadAnswers.{first_fails, items_end, item_fails, item_reads, found_one, found_other, found_none, found_bad, gives_left, frame_name, known_at, step_at}
+use Rattle.std.proofs.Common.{◌-◌}
+use Rattle.evidence_check.proofs.FitAnswers.{others_from, listed_in, listed_out}
+use Rattle.std.proofs.Common.{ap₂}
 use Rattle.evidence_check.proofs.StepAnswers.{listed_is}
-use Rattle.evidence_check.proofs.ReadAnswers.{reads_memory, reads_handed}
-use Rattle.evidence_check.proofs.ReadSteps.{KeepsSoFar, so_far_none, so_far_skip, so_far_next, so_far_fault, so_far_early, so_far_read, so_far_all}
+use Rattle.evidence_check.proofs.ReadAnswers.{others_start, none_more}
 use Rattle.evidence_check.proofs.document.keeps.Goals as goal
-use Rattle.evidence_check.proofs.document.keeps.Goals.{then-not-is_listed+in_ok-keep+in_ok-push+in_ok-line, else-not-is_listed}
+use Rattle.evidence_check.proofs.document.keeps.Goals.{then-not-is_listed+in_ok-keep+in_ok-push, else-not-is_listed}
 
 pub loop-k-init : goal.loop-k-init
-loop-k-init g c = record {
-  so_far = subst (λ xs. KeepsSoFar (case_frame g.F.CaseNumber.numbers (content c.args.case.now)) (length (content c.args.case.now).names)
-      (length c.args.steps.now) (hypotheses_of c.args.steps.now) (left_from c.args.first c.args.lines.now) 0 (map (keep_parts g.F.Number.parts) xs)
-      (left_from c.args.first c.args.lines.now)) (sym c.new-keeps.ensures)
-      (so_far_none _ (length (content c.args.case.now).names) (length c.args.steps.now) (hypotheses_of c.args.steps.now)
-      (left_from c.args.first c.args.lines.now));
-}
+loop-k-init g c =
+    let T = (case_frame g.F.CaseNumber.numbers (content c.args.case.now)) in
+    let js = hypotheses_of c.args.steps.now in
+    let m = length (content c.args.case.now).names in
+    record {
+      end = refl;
+      so_far = ap₂ (λ xs ks. reads (each_after (keep T js) xs ks) c.args.lines.now) (sym (ap (map (keep_parts g.F.Number.parts)) c.new-keeps.ensures)) (sym (others_start m js));
+    }
 
 pub returns-in_err-keep-clause-said : goal.returns-in_err-keep-clause-said
 returns-in_err-keep-clause-said g c =
+    let T = (case_frame g.F.CaseNumber.numbers (content c.args.case.now)) in
+    let js = hypotheses_of c.args.steps.now in
+    let m = length (content c.args.case.now).names in
     let p : c.loop-k.k < length (content c.args.case.now).names = subst (λ n. c.loop-k.k < n) c.size-k-end.ensures.count c.loop-k-test.true in
-    reads_handed _ _ _ _ c.from_residual.result c.in_err-keep.field-0.0 c.from_residual.ensures.1
-    (so_far_fault c.loop-k.invariant.so_far p (sym (listed_is c.args.steps.now c.loop-k.k) ∙ sym c.is_listed.ensures ∙ c.if-not-is_listed.true)
+    handed _ c.from_residual.result c.in_err-keep.field-0.0 _ c.from_residual.ensures.1
+    (next_fails (keep T js) (map (keep_parts g.F.Number.parts) c.loop-k.keeps) c.loop-k.k (others_from js (c.loop-k.k + 1) (m - (c.loop-k.k + 1))) c.loop-k.lines _
+    (c.loop-k.invariant.so_far ∙ ap (λ ks. reads (each_after (keep T js) (map (keep_parts g.F.Number.parts) c.loop-k.keeps) ks) c.loop-k.lines)
+    (listed_in m js c.loop-k.k p (sym (listed_is c.args.steps.now c.loop-k.k) ∙ sym c.is_listed.ensures ∙ c.if-not-is_listed.true)))
     c.in_err-keep.field-0.0 c.in_err-keep.ensures.said)
-
-pub returns-in_err-push-clause-said : goal.returns-in_err-push-clause-said
-returns-in_err-push-clause-said g c =
-    reads_handed _ _ _ _ c.from_residual-in_err-push.result faults.NoMemory c.from_residual-in_err-push.ensures.1
-    (reads_memory _ _ (left_from c.args.first c.args.lines.now))
-
-pub returns-in_err-line-clause-said : goal.returns-in_err-line-clause-said
-returns-in_err-line-clause-said g c =
-    let p : c.loop-k.k < length (content c.args.case.now).names = subst (λ n. c.loop-k.k < n) c.size-k-end.ensures.count c.loop-k-test.true in
-    let S = so_far_next c.loop-k.invariant.so_far p (sym (listed_is c.args.steps.now c.loop-k.k) ∙ sym c.is_listed.ensures ∙ c.if-not-is_listed.true)
-    (keep_parts g.F.Number.parts c.in_ok-keep.field-0) (left_of c.keep.new.lines) c.in_ok-keep.ensures.same c.in_ok-keep.ensures.full c.in_ok-keep.ensures.said
-    in
-    reads_handed _ _ _ _ c.from_residual-in_err-line.result c.in_err-line.field-0.0 c.from_residual-in_err-line.ensures.1
-    (so_far_early S c.in_err-line.field-0.0 c.in_err-line.ensures.fault.0 c.in_err-line.ensures.fault.1)
 
 pub loop-k-preserved : goal.loop-k-preserved
 loop-k-preserved g c =
+    let T = (case_frame g.F.CaseNumber.numbers (content c.args.case.now)) in
+    let js = hypotheses_of c.args.steps.now in
+    let m = length (content c.args.case.now).names in
     let p : c.loop-k.k < length (content c.args.case.now).names = subst (λ n. c.loop-k.k < n) c.size-k-end.ensures.count c.loop-k-test.true in
     elim c.if-not-is_listed.branch [
-      | then-not-is_listed+in_ok-keep+in_ok-push+in_ok-line w ↦
-          let S = so_far_next c.loop-k.invariant.so_far p (sym (listed_is c.args.steps.now c.loop-k.k) ∙ sym c.is_listed.ensures ∙ w.if-not-is_listed.true)
-          (keep_parts g.F.Number.parts w.in_ok-keep.field-0) (left_of w.keep.new.lines) w.in_ok-keep.ensures.same w.in_ok-keep.ensures.full
-          w.in_ok-keep.ensures.said in
-          record {
-            so_far = subst (KeepsSoFar (case_frame g.F.CaseNumber.numbers (content c.args.case.now)) (length (content c.args.case.now).names)
-                (length c.args.steps.now) (hypotheses_of c.args.steps.now) (left_from c.args.first c.args.lines.now) (c.loop-k.k + 1)
-                (map (keep_parts g.F.Number.parts) c.if-not-is_listed.keeps))
-                (w.in_ok-line.ensures.found ∙ ap (λ l. left_from l w.next_line.new.lines) (sym w.line-is) ∙ ap
-                (λ ls. left_from c.if-not-is_listed.line ls) (sym w.lines-is))
-                (subst (λ xs. KeepsSoFar (case_frame g.F.CaseNumber.numbers (content c.args.case.now)) (length (content c.args.case.now).names)
-                (length c.args.steps.now) (hypotheses_of c.args.steps.now) (left_from c.args.first c.args.lines.now) (c.loop-k.k + 1) xs
-                (left_of w.keep.new.lines)) (sym (ap (map (keep_parts g.F.Number.parts)) (w.keeps-is ∙ w.in_ok-push.ensures.pushed) ∙ map-append
-                (keep_parts g.F.Number.parts) c.loop-k.keeps (w.in_ok-keep.field-0 ∷ []))) S);
-          }
+      | then-not-is_listed+in_ok-keep+in_ok-push w ↦ record {
+        end = ap (λ l. l.end) w.lines-is ∙ w.keep.ensures.end ∙ c.loop-k.invariant.end;
+        so_far = next_reads (keep T js) (map (keep_parts g.F.Number.parts) c.loop-k.keeps) c.loop-k.k (others_from js (c.loop-k.k + 1) (m - (c.loop-k.k + 1))) c.loop-k.lines _
+            (c.loop-k.invariant.so_far ∙ ap (λ ks. reads (each_after (keep T js) (map (keep_parts g.F.Number.parts) c.loop-k.keeps) ks) c.loop-k.lines)
+            (listed_in m js c.loop-k.k p (sym (listed_is c.args.steps.now c.loop-k.k) ∙ sym c.is_listed.ensures ∙ w.if-not-is_listed.true)))
+            (keep_parts g.F.Number.parts w.in_ok-keep.field-0) w.keep.new.lines w.in_ok-keep.ensures.said w.keep.ensures.end
+            ∙ ap₂ (λ xs l. reads (each_after (keep T js) xs (others_from js (c.loop-k.k + 1) (m - (c.loop-k.k + 1)))) l)
+            (sym (ap (map (keep_parts g.F.Number.parts)) (w.keeps-is ∙ w.in_ok-push.ensures.pushed) ∙ map-append (keep_parts g.F.Number.parts) c.loop-k.keeps (w.in_ok-keep.field-0 ∷ [])))
+            (sym w.lines-is);
+      }
       | else-not-is_listed w ↦ record {
-        so_far = subst (λ ls. KeepsSoFar (case_frame g.F.CaseNumber.numbers (content c.args.case.now)) (length (content c.args.case.now).names)
-            (length c.args.steps.now) (hypotheses_of c.args.steps.now) (left_from c.args.first c.args.lines.now) (c.loop-k.k + 1)
-            (map (keep_parts g.F.Number.parts) c.if-not-is_listed.keeps) (left_from c.if-not-is_listed.line ls)) (sym w.lines-is)
-            (subst (λ l. KeepsSoFar (case_frame g.F.CaseNumber.numbers (content c.args.case.now)) (length (content c.args.case.now).names)
-            (length c.args.steps.now) (hypotheses_of c.args.steps.now) (left_from c.args.first c.args.lines.now) (c.loop-k.k + 1)
-            (map (keep_parts g.F.Number.parts) c.if-not-is_listed.keeps) (left_from l c.loop-k.lines)) (sym w.line-is)
-            (subst (λ xs. KeepsSoFar (case_frame g.F.CaseNumber.numbers (content c.args.case.now)) (length (content c.args.case.now).names)
-            (length c.args.steps.now) (hypotheses_of c.args.steps.now) (left_from c.args.first c.args.lines.now) (c.loop-k.k + 1)
-            (map (keep_parts g.F.Number.parts) xs) (left_from c.loop-k.line c.loop-k.lines)) (sym w.keeps-is)
-            (so_far_skip c.loop-k.invariant.so_far p (sym (listed_is c.args.steps.now c.loop-k.k) ∙ sym c.is_listed.ensures ∙ w.if-not-is_listed.false))));
+        end = ap (λ l. l.end) w.lines-is ∙ c.loop-k.invariant.end;
+        so_far = c.loop-k.invariant.so_far ∙ ap (λ ks. reads (each_after (keep T js) (map (keep_parts g.F.Number.parts) c.loop-k.keeps) ks) c.loop-k.lines)
+            (listed_out m js c.loop-k.k p (sym (listed_is c.args.steps.now c.loop-k.k) ∙ sym c.is_listed.ensures ∙ w.if-not-is_listed.false))
+            ∙ ap₂ (λ xs l. reads (each_after (keep T js) (map (keep_parts g.F.Number.parts) xs) (others_from js (c.loop-k.k + 1) (m - (c.loop-k.k + 1)))) l) (sym w.keeps-is) (sym w.lines-is);
       }
     ]
 
 pub returns-clause-said : goal.returns-clause-said
-returns-clause-said g c = so_far_read c.loop-k.invariant.so_far (omega (arith, c.loop-k.auto.k-end, c.loop-k-test.false, c.size-k-end.ensures.count))
-
-pub returns-clause-all : goal.returns-clause-all
-returns-clause-all g c =
-    sym (map-map (λ x. x.hypothesis) (keep_parts g.F.Number.parts) c.loop-k.keeps) ∙ so_far_all c.loop-k.invariant.so_far
-    (omega (arith, c.loop-k.auto.k-end, c.loop-k-test.false, c.size-k-end.ensures.count))
+returns-clause-said g c =
+    let T = (case_frame g.F.CaseNumber.numbers (content c.args.case.now)) in
+    let js = hypotheses_of c.args.steps.now in
+    let m = length (content c.args.case.now).names in
+    none_left (keep T js) (map (keep_parts g.F.Number.parts) c.loop-k.keeps) (others_from js c.loop-k.k (m - c.loop-k.k)) c.loop-k.lines _ c.loop-k.invariant.so_far
+    (none_more m c.loop-k.k js (omega (arith, c.loop-k.auto.k-end, c.loop-k-test.false, c.size-k-end.ensures.count)))

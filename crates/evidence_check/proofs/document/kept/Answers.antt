@@ -1,24 +1,37 @@
-use Rattle.std.proofs.Common.{◌≢◌, sym, subst, [], ◌∷◌, map, Ok}
+use Rattle.std.proofs.Common.{◌≡◌, ◌∙◌, ◌+◌, ◌<◌, ◌≤◌, inl, inr, refl, sym, ap, subst, [], ◌∷◌, ◌++◌, drop, map, length, get_or, Some, None, Ok, Err, arith}
+use Rattle.std.specs.List.{All, range_with_len}
+use Rattle.std.proofs.lemmas.List.{map-append, drop_more, drop_all, length-map}
+use Rattle.std.proofs.lemmas.List.Elements.{All-push, All-nil}
+use Rattle.std.proofs.lemmas.List.FromFn.{length-range_with_len, get_or-range_with_len}
+use Rattle.std.proofs.lemmas.Simd.{map-map}
+use Rattle.text_lines.specs.Forms.{Line, Then, Say, Many}
+use Rattle.text_lines.specs.Kinds.{each_after, each_of, maybe}
+use Rattle.text_lines.specs.View.{row}
+use Rattle.text_lines.specs.Left.{Left, behind_first}
+use Rattle.text_lines.proofs.LineRuns.{first_row, no_row}
+use Rattle.text_lines.proofs.FormReads.{read_say}
 use Rattle.case_model.specs.CaseView.{content}
-use Rattle.evidence_check.specs.Documents.{keep_forms, keeps_due, kept_in, TheEnd, AtEnd, At}
-use Rattle.evidence_check.specs.EvidenceView.{hypotheses_of, keep_parts}
+use Rattle.evidence_check.specs.declared.quantity.Quantity.TheVariants.{Flow, Exit}
+use Rattle.evidence_check.specs.declared.fault.ProofText.TheVariants as faults
+use Rattle.evidence_check.specs.DocumentLines.{Frame, kinds, version_line, step_line, number_line, keep_line, end_line}
+use Rattle.evidence_check.specs.Document.{component_numbers, numbers, named, step, keep, kept}
+use Rattle.evidence_check.specs.Evidence.{others}
+use Rattle.evidence_check.specs.EvidenceView.{hypotheses_of, step_parts, keep_parts}
 use Rattle.evidence_check.specs.NumberReading.{case_frame}
-use Rattle.evidence_check.specs.ReadView.{left_from, taken, Reads}
-use Rattle.evidence_check.proofs.ReadAnswers.{reads_none}
-use Rattle.evidence_check.proofs.ReadSteps.{kept_none}
+use Rattle.evidence_check.specs.ReadView.{Reads}
+use Rattle.evidence_check.proofs.Hypotheses.{as_many, same_hypotheses}
+use Rattle.evidence_check.proofs.ReadAnswers.{Fails, Gives, handed, reads, line_given, line_fails, line_missing, then_fails, then_reads, next_fails, next_reads, none_left}
+use Rattle.evidence_check.proofs.ReadAnswers.{first_fails, items_end, item_fails, item_reads, found_one, found_other, found_none, found_bad, gives_left, frame_name, known_at, step_at}
+use Rattle.field_core.specs.Answers.{told_as}
+use Rattle.text_lines.specs.Forms.{words_seen}
+use Rattle.evidence_check.specs.ReadView.{proof_fault}
+use Rattle.evidence_check.proofs.ReadAnswers.{kept_none}
 use Rattle.evidence_check.proofs.document.kept.Goals as goal
 
 pub returns-else-version-eq2-clause-said : goal.returns-else-version-eq2-clause-said
 returns-else-version-eq2-clause-said g c =
-    let n : c.args.version ≢ 2 = c.if-version-eq2.false in
-    subst (λ xs. Reads (case_frame g.F.CaseNumber.numbers (content c.args.case.now))
-    (At (keeps_due (case_frame g.F.CaseNumber.numbers (content c.args.case.now)) (hypotheses_of c.args.steps.now)
-    (kept_in (case_frame g.F.CaseNumber.numbers (content c.args.case.now)) c.args.version (hypotheses_of c.args.steps.now))) AtEnd)
-    (left_from c.args.first c.args.lines.now)
-    (Ok (taken (keep_forms (hypotheses_of c.args.steps.now) (map (keep_parts g.F.Number.parts) xs)) (At (TheEnd ∷ []) AtEnd)
-    (left_from c.args.first c.args.lines.now)))) (sym c.new.ensures)
-    (subst (λ ks. Reads (case_frame g.F.CaseNumber.numbers (content c.args.case.now))
-    (At (keeps_due (case_frame g.F.CaseNumber.numbers (content c.args.case.now)) (hypotheses_of c.args.steps.now) ks) AtEnd)
-    (left_from c.args.first c.args.lines.now) (Ok (taken [] (At (TheEnd ∷ []) AtEnd) (left_from c.args.first c.args.lines.now))))
-    (sym (kept_none (case_frame g.F.CaseNumber.numbers (content c.args.case.now)) c.args.version (hypotheses_of c.args.steps.now) n))
-    (reads_none _ (At (TheEnd ∷ []) AtEnd) (left_from c.args.first c.args.lines.now)))
+    let T = (case_frame g.F.CaseNumber.numbers (content c.args.case.now)) in
+    let js = hypotheses_of c.args.steps.now in
+    ap (told_as proof_fault) (ap (λ ks. reads (each_of (keep T js) ks) c.args.lines.now) (kept_none T c.args.version js c.if-version-eq2.false)
+    ∙ read_say kinds [] (words_seen c.args.lines.now.rows) c.args.lines.now.end)
+    ∙ ap (λ xs. Ok (map (keep_parts g.F.Number.parts) xs, words_seen c.args.lines.now.rows)) (sym c.new.ensures)

@@ -1,28 +1,46 @@
-use Rattle.std.proofs.Common.{refl, sym}
-use Rattle.text_lines.specs.Lines.{rows_left, end_at}
+use Rattle.std.proofs.Common.{◌≡◌, ◌∙◌, ◌+◌, ◌<◌, ◌≤◌, inl, inr, refl, sym, ap, subst, [], ◌∷◌, ◌++◌, drop, map, length, get_or, Some, None, Ok, Err, arith}
+use Rattle.std.specs.List.{All, range_with_len}
+use Rattle.std.proofs.lemmas.List.{map-append, drop_more, drop_all, length-map}
+use Rattle.std.proofs.lemmas.List.Elements.{All-push, All-nil}
+use Rattle.std.proofs.lemmas.List.FromFn.{length-range_with_len, get_or-range_with_len}
+use Rattle.std.proofs.lemmas.Simd.{map-map}
+use Rattle.text_lines.specs.Forms.{Line, Then, Say, Many}
+use Rattle.text_lines.specs.Kinds.{each_after, each_of, maybe}
 use Rattle.text_lines.specs.View.{row}
+use Rattle.text_lines.specs.Left.{Left, behind_first}
+use Rattle.text_lines.proofs.LineRuns.{first_row, no_row}
+use Rattle.text_lines.proofs.FormReads.{read_say}
 use Rattle.case_model.specs.CaseView.{content}
-use Rattle.evidence_check.specs.EvidenceView.{hypotheses_of}
+use Rattle.evidence_check.specs.declared.quantity.Quantity.TheVariants.{Flow, Exit}
+use Rattle.evidence_check.specs.declared.fault.ProofText.TheVariants as faults
+use Rattle.evidence_check.specs.DocumentLines.{Frame, kinds, version_line, step_line, number_line, keep_line, end_line}
+use Rattle.evidence_check.specs.Document.{component_numbers, numbers, named, step, keep, kept}
+use Rattle.evidence_check.specs.Evidence.{others}
+use Rattle.evidence_check.specs.EvidenceView.{hypotheses_of, step_parts, keep_parts}
 use Rattle.evidence_check.specs.NumberReading.{case_frame}
-use Rattle.evidence_check.specs.ReadView.{left_of}
-use Rattle.evidence_check.proofs.ReadAnswers.{reads_handed}
-use Rattle.evidence_check.proofs.ReadSteps.{step_read, step_bad, step_fault}
+use Rattle.evidence_check.specs.ReadView.{Reads}
+use Rattle.evidence_check.proofs.Hypotheses.{as_many, same_hypotheses}
+use Rattle.evidence_check.proofs.ReadAnswers.{Fails, Gives, handed, reads, line_given, line_fails, line_missing, then_fails, then_reads, next_fails, next_reads, none_left}
+use Rattle.evidence_check.proofs.ReadAnswers.{first_fails, items_end, item_fails, item_reads, found_one, found_other, found_none, found_bad, gives_left, frame_name, known_at, step_at}
+use Rattle.evidence_check.proofs.ReadAnswers.{step_read}
 use Rattle.evidence_check.proofs.document.step.Goals as goal
 
-pub returns-in_err-flows-in-Ok-clause-said : goal.returns-in_err-flows-in-Ok-clause-said
-returns-in_err-flows-in-Ok-clause-said g c = λ v.
-    reads_handed _ _ _ _ c.from_residual.result c.in_err-flows-in-Ok.field-0.0 c.from_residual.ensures.1
-    (step_fault _ (hypotheses_of c.args.earlier.now) (row c.args.line.now) _ (sym c.requires.first) (rows_left c.args.lines.now) (end_at c.args.lines.now) v
-    c.in-Ok.hypothesis (sym (c.in-Ok.ensures.said (case_frame g.F.CaseNumber.numbers (content c.args.case.now)) (λ name. refl)))
-    c.in_err-flows-in-Ok.field-0.0 c.in_err-flows-in-Ok.ensures.said)
+pub returns-in_err-flows-clause-said : goal.returns-in_err-flows-clause-said
+returns-in_err-flows-clause-said g c =
+    let T = (case_frame g.F.CaseNumber.numbers (content c.args.case.now)) in
+    let js = same_hypotheses g.F.Number.parts c.args.earlier.now in
+    handed _ c.from_residual.result c.in_err-flows.field-0.0 _ c.from_residual.ensures.1
+    (then_fails (numbers T Flow (named (map (step_parts g.F.Number.parts) c.args.earlier.now))) (λ flows. Say (record { hypothesis = c.args.hypothesis; flows = flows })) c.args.lines.now
+    c.in_err-flows.field-0.0 (subst (λ hs. Fails (reads (numbers T Flow hs) c.args.lines.now) c.in_err-flows.field-0.0) js c.in_err-flows.ensures.said))
 
-pub returns-in_ok-flows-in-Ok-clause-said : goal.returns-in_ok-flows-in-Ok-clause-said
-returns-in_ok-flows-in-Ok-clause-said g c = λ v.
-    step_read _ (hypotheses_of c.args.earlier.now) (row c.args.line.now) _ (sym c.requires.first) (rows_left c.args.lines.now) (end_at c.args.lines.now) v
-    c.in-Ok.hypothesis (sym (c.in-Ok.ensures.said (case_frame g.F.CaseNumber.numbers (content c.args.case.now)) (λ name. refl))) _ (left_of c.lists.new.lines)
-    c.in_ok-flows-in-Ok.ensures.said
+pub returns-clause-said : goal.returns-clause-said
+returns-clause-said g c =
+    let T = (case_frame g.F.CaseNumber.numbers (content c.args.case.now)) in
+    let js = same_hypotheses g.F.Number.parts c.args.earlier.now in
+    step_read T (map (step_parts g.F.Number.parts) c.args.earlier.now) c.args.hypothesis c.args.lines.now c.lists.new.lines (map (map g.F.Number.parts) c.in_ok-flows.flows)
+    (subst (λ hs. Gives (numbers T Flow hs) c.args.lines.now (map (map g.F.Number.parts) c.in_ok-flows.flows) c.lists.new.lines) js c.in_ok-flows.ensures.said) c.lists.ensures.end
 
-pub returns-in-Err-clause-said : goal.returns-in-Err-clause-said
-returns-in-Err-clause-said g c = λ v.
-    step_bad _ (hypotheses_of c.args.earlier.now) (row c.args.line.now) _ (sym c.requires.first) (rows_left c.args.lines.now) (end_at c.args.lines.now) v
-    c.in-Err.kind (sym (c.in-Err.ensures.said (case_frame g.F.CaseNumber.numbers (content c.args.case.now)) (λ name. refl)))
+pub returns-clause-left : goal.returns-clause-left
+returns-clause-left g c =
+    let T = (case_frame g.F.CaseNumber.numbers (content c.args.case.now)) in
+    gives_left (numbers T Flow (hypotheses_of c.args.earlier.now)) c.args.lines.now c.lists.new.lines (map (map g.F.Number.parts) c.in_ok-flows.flows) c.in_ok-flows.ensures.said

@@ -1,21 +1,37 @@
-use Rattle.std.proofs.Common.{◌<◌, map, length}
-use Rattle.std.specs.List.{All}
-use Rattle.text_lines.specs.Lines.{rows_left}
+use Rattle.std.proofs.Common.{◌≡◌, ◌∙◌, ◌+◌, ◌<◌, ◌≤◌, inl, inr, refl, sym, ap, subst, [], ◌∷◌, ◌++◌, drop, map, length, get_or, Some, None, Ok, Err, arith}
+use Rattle.std.specs.List.{All, range_with_len}
+use Rattle.std.proofs.lemmas.List.{map-append, drop_more, drop_all, length-map}
+use Rattle.std.proofs.lemmas.List.Elements.{All-push, All-nil}
+use Rattle.std.proofs.lemmas.List.FromFn.{length-range_with_len, get_or-range_with_len}
+use Rattle.std.proofs.lemmas.Simd.{map-map}
+use Rattle.text_lines.specs.Forms.{Line, Then, Say, Many}
+use Rattle.text_lines.specs.Kinds.{each_after, each_of, maybe}
+use Rattle.text_lines.specs.View.{row}
+use Rattle.text_lines.specs.Left.{Left, behind_first}
+use Rattle.text_lines.proofs.LineRuns.{first_row, no_row}
+use Rattle.text_lines.proofs.FormReads.{read_say}
 use Rattle.case_model.specs.CaseView.{content}
-use Rattle.evidence_check.specs.EvidenceParts.{FlowsFit}
-use Rattle.evidence_check.specs.EvidenceView.{hypotheses_of, step_parts}
+use Rattle.evidence_check.specs.declared.quantity.Quantity.TheVariants.{Flow, Exit}
+use Rattle.evidence_check.specs.declared.fault.ProofText.TheVariants as faults
+use Rattle.evidence_check.specs.DocumentLines.{Frame, kinds, version_line, step_line, number_line, keep_line, end_line}
+use Rattle.evidence_check.specs.Document.{component_numbers, numbers, named, step, keep, kept}
+use Rattle.evidence_check.specs.Evidence.{others}
+use Rattle.evidence_check.specs.EvidenceView.{hypotheses_of, step_parts, keep_parts}
 use Rattle.evidence_check.specs.NumberReading.{case_frame}
-use Rattle.evidence_check.specs.ReadView.{left_of, left_from}
-use Rattle.evidence_check.proofs.ReadSteps.{StepsRead}
+use Rattle.evidence_check.specs.ReadView.{Reads}
+use Rattle.evidence_check.proofs.Hypotheses.{as_many, same_hypotheses}
+use Rattle.evidence_check.proofs.ReadAnswers.{Fails, Gives, handed, reads, line_given, line_fails, line_missing, then_fails, then_reads, next_fails, next_reads, none_left}
+use Rattle.evidence_check.proofs.ReadAnswers.{first_fails, items_end, item_fails, item_reads, found_one, found_other, found_none, found_bad, gives_left, frame_name, known_at, step_at}
 use Rattle.evidence_check.proofs.document.steps.Given as goal
 
-abbrev pub invariant-loop-words : goal.invariant-loop-words
-invariant-loop-words g l = record {
-  known : All (λ j. j < length (content l.case).names) (hypotheses_of l.steps);
-  full : FlowsFit (length (content l.case).components) 0 (map (step_parts g.F.Number.parts) l.steps);
-  read : StepsRead (case_frame g.F.CaseNumber.numbers (content l.case)) (left_of l.fn.lines) (map (step_parts g.F.Number.parts) l.steps)
-      (left_from l.line l.lines);
-}
+abbrev pub invariant-loop-steps : goal.invariant-loop-steps
+invariant-loop-steps g l =
+    let T = case_frame g.F.CaseNumber.numbers (content l.case) in
+    record {
+      end : l.lines.end ≡ l.fn.lines.end;
+      known : All (λ j. j < length (content l.case).names) (hypotheses_of l.steps);
+      so_far : reads (Many (step_line T) (step T) []) l.fn.lines ≡ reads (Many (step_line T) (step T) (map (step_parts g.F.Number.parts) l.steps)) l.lines;
+    }
 
-abbrev pub decreases-loop-words : goal.decreases-loop-words
-decreases-loop-words g l = length (rows_left l.lines)
+abbrev pub decreases-loop-steps : goal.decreases-loop-steps
+decreases-loop-steps g l = length l.lines.rows

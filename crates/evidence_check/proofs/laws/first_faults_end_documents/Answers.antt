@@ -1,4 +1,4 @@
-use Rattle.evidence_check.proofs.Completions.{faults_end_documents, none_is_fault}
+use Rattle.evidence_check.proofs.DocumentEnds.{faults_end_documents, none_is_fault}
 use Rattle.evidence_check.proofs.laws.first_faults_end_documents.Goals as goal
 
 pub returns-clause-there : goal.returns-clause-there

@@ -1,5 +1,7 @@
-use Rattle.evidence_check.proofs.OneEvidence.{one_evidence}
+use Rattle.text_lines.proofs.FormReads.{one_said}
+use Rattle.evidence_check.specs.DocumentLines.{kinds}
+use Rattle.evidence_check.specs.Document.{document}
 use Rattle.evidence_check.proofs.laws.lines_say_one_evidence.Goals as goal
 
 pub returns : goal.returns
-returns c = one_evidence
+returns c = λ T rows a b h k. one_said kinds (document T) rows a b h k
