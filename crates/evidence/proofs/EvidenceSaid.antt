@@ -145,8 +145,7 @@ module _ (n : Numbers) (c : Content) (words : Each c.names IsWord) (apart : AreD
 
     all_lines : AllByRecursion IsLine (evidence_lines (case_frame n c) v ss xs)
     all_lines =
-        let js = map (λ s. s.hypothesis) ss in
-        (
+        let js = map (λ s. s.hypothesis) ss in (
           version_is v version,
           all_append IsLine (step_lines T [] ss ++ keep_lines T js xs) (end_words ∷ [])
               (all_append IsLine (step_lines T [] ss) (keep_lines T js xs)

@@ -241,7 +241,8 @@ fn written<F: WrittenNumber>(
     requires { FitsCase (content case.now) proof.now.version (map (step_parts F.parts) proof.now.steps)
         (map (keep_parts F.parts) proof.now.keeps) }
     ensures { IfOk result (λ text. text ≡ text_of
-        (evidence_lines (case_frame F.numbers (content case.now)) proof.now.version (map (step_parts F.parts) proof.now.steps) (map (keep_parts F.parts) proof.now.keeps))) }
+        (evidence_lines (case_frame F.numbers (content case.now)) proof.now.version
+        (map (step_parts F.parts) proof.now.steps) (map (keep_parts F.parts) proof.now.keeps))) }
 {
     let steps = proof.steps.as_slice();
     let mut text = List::new(alloc);

@@ -42,7 +42,7 @@ same xs = (bytes_eq-Decides xs xs).1 refl
 abbrev line : Words → Seen Words
 line words = record { number = 0; line = words }
 
--- a line that begins so is no step
+-- a line that begins so is not a step
 other : {A : Type 0} (F : Frame) (first : List ℕ) (f : Words → Result A ProofKind) (words : Words) (a : A)
     → ((rest : Words) → step_line F (first ∷ rest) ≡ None) → words_after first f words ≡ Some (Ok a) → step_line F words ≡ None
 other {A} F first f words a h e = by (words_behind first words) refl e

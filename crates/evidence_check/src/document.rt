@@ -48,7 +48,8 @@ fn number<F: EvidenceNumber>(
 ) -> Result<F, ProofText>
     requires c { c < 8 }
     requires known { hypothesis < length (content case.now).names }
-    ensures said { Reads (OneLine (number_line (case_frame F.numbers (content case.now)) quantity c hypothesis)) F.parts lines.old result lines.new }
+    ensures said { Reads (OneLine (number_line (case_frame F.numbers (content case.now)) quantity c hypothesis))
+        F.parts lines.old result lines.new }
     ensures end { lines.new.end ≡ lines.old.end }
 {
     let line = next_line(lines)?;
@@ -165,7 +166,8 @@ fn keep_line<F: EvidenceNumber>(
     hypothesis: usize,
 ) -> Result<(), ProofText>
     requires known { hypothesis < length (content case.now).names }
-    ensures said { Reads (OneLine (keep_line (case_frame F.numbers (content case.now)) hypothesis)) (λ _. hypothesis) lines.old result lines.new }
+    ensures said { Reads (OneLine (keep_line (case_frame F.numbers (content case.now)) hypothesis))
+        (λ _. hypothesis) lines.old result lines.new }
     ensures end { lines.new.end ≡ lines.old.end }
 {
     let line = next_line(lines)?;
@@ -225,7 +227,8 @@ pub fn kept<F: EvidenceNumber>(
 ) -> Result<List<KeepProof<F>>, ProofText>
     requires known { All (λ j. j < length (content case.now).names) (hypotheses_of steps.now) }
     ensures said { Reads (each_of (keep (case_frame F.numbers (content case.now)) (hypotheses_of steps.now))
-        (kept (case_frame F.numbers (content case.now)) version (hypotheses_of steps.now))) (map (keep_parts F.parts)) lines.old result lines.new }
+        (kept (case_frame F.numbers (content case.now)) version (hypotheses_of steps.now)))
+        (map (keep_parts F.parts)) lines.old result lines.new }
     ensures end { lines.new.end ≡ lines.old.end }
 {
     if version == 2 {

@@ -52,8 +52,8 @@ pub fn cases_have_frames()
     ensures { CasesHaveFrames }
 {}
 
-/// What is read of a text is what its lines denote, and else its first fault is in the first line with which no document
-/// continues, or the text ends too early. What is read for a case is some evidence that fits the case.
+/// What is read of a text is what its lines denote. Else its first fault is in the first line with which no document continues, or
+/// the text ends too early. What is read for a case is some evidence that fits the case.
 pub fn readings_are_documents()
     ensures says { ReadingsAreDocuments }
     ensures fault { FaultsAreFirst }
