@@ -27,6 +27,7 @@ test_that("another double is read as the shortest decimal that is read back", {
   own <- texts$rule == "shortest decimal"
   expect_true(sum(own) > 240)
   expect_identical(as.numeric(texts$read[own]), x[own])
+  expect_identical(texts$given[own], texts$read[own])
   shorter <- mapply(function(text, value) {
     digits <- nchar(gsub("[^0-9]", "", sub("e.*", "", sub("^0[.]0*", "", text))))
     digits == 1 || as.numeric(sprintf("%.*e", digits - 2L, value)) != value
