@@ -151,3 +151,15 @@ test_that("doubles of fractions are the ones that R computes", {
   long <- paste0("1", strrep("0", 20), "/3", strrep("0", 20))
   expect_identical(welungad:::double_of(c(long, "1/2")), c(1 / 3, 1 / 2))
 })
+
+test_that("doubles of long fractions are those of gmp", {
+  set.seed(12)
+  digits <- function(most) paste0(sample(1:9, 1), paste(sample(0:9, sample(0:most, 1), TRUE), collapse = ""))
+  texts <- replicate(2000, paste0(digits(37), "/", digits(37)))
+  own <- as.character(gmp::as.bigq(texts))
+  expect_identical(welungad:::double_of(own), welungad:::as_double(gmp::as.bigq(own)))
+  most <- paste0(strrep("9", 38), c("/1", "/7", paste0("/", strrep("9", 37), "8")))
+  expect_identical(welungad:::double_of(most), welungad:::as_double(gmp::as.bigq(most)))
+  longer <- paste0(strrep("9", 39), "/", strrep("9", 38), "7")
+  expect_identical(welungad:::double_of(longer), welungad:::as_double(gmp::as.bigq(longer)))
+})
