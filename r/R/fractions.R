@@ -21,7 +21,7 @@ as_double <- function(x) {
 
 # The doubles of numerals in texts, NA for other texts.
 double_of <- function(text) {
-  out <- .Call(C_welungad_short_doubles, text)
+  out <- .Call(C_welungad_doubles, text)
   if (anyNA(out)) {
     other <- which(is.na(out))
     out[other] <- double_of_any(text[other])
@@ -29,7 +29,7 @@ double_of <- function(text) {
   out
 }
 
-# The same of fractions with long parts, and of decimals.
+# The same of fractions with longer parts, of those below 0, and of decimals.
 double_of_any <- function(text) {
   out <- rep(NA_real_, length(text))
   numeral <- is_numeral(text)

@@ -251,24 +251,39 @@ SEXP welungad_readings(SEXP doubles, SEXP own) {
 
 /* ---- the other way */
 
-/* Reads a whole number of 1 to 15 digits, which is a double, and returns where the text continues; NULL if there is none. */
-static const char *short_whole(const char *text, double *value) {
+/* Reads a whole number of 1 to 38 digits, and returns where the text continues; NULL if there is none. */
+static const char *read_whole(const char *text, wide *value) {
   int count = 0;
   *value = 0;
-  for (; *text >= '0' && *text <= '9'; text++, count++) *value = *value * 10 + (*text - '0');
-  return count >= 1 && count <= 15 ? text : NULL;
+  for (; *text >= '0' && *text <= '9' && count < 39; text++, count++) *value = *value * 10 + (wide)(*text - '0');
+  return count >= 1 && count <= 38 ? text : NULL;
 }
 
-/* Returns the doubles of texts that are whole numbers or fractions of parts of at most 15 digits; NA for other texts. */
-SEXP welungad_short_doubles(SEXP texts) {
+/* The double of a fraction: R's quotient if both parts are doubles, else the first 53 digits of the quotient, as gmp gives them. */
+static double double_of(wide n, wide d) {
+  const wide most = (wide)1 << 53;
+  if (n <= most && d <= most) return (double)n / (double)d;
+  wide quotient = n / d, rest = n % d;
+  int exponent = 0;
+  for (; quotient >= most; exponent++) quotient >>= 1;
+  for (; quotient < most / 2 && (quotient > 0 || rest > 0); exponent--) {
+    rest *= 2;
+    quotient = 2 * quotient + (rest >= d);
+    if (rest >= d) rest -= d;
+  }
+  return ldexp((double)quotient, exponent);
+}
+
+/* Returns the doubles of texts that are whole numbers or fractions of parts of at most 38 digits; NA for other texts. */
+SEXP welungad_doubles(SEXP texts) {
   if (TYPEOF(texts) != STRSXP) error("texts are needed");
   R_xlen_t len = XLENGTH(texts);
   SEXP result = PROTECT(allocVector(REALSXP, len));
   for (R_xlen_t i = 0; i < len; i++) {
-    double n, d = 1;
-    const char *rest = STRING_ELT(texts, i) == NA_STRING ? NULL : short_whole(CHAR(STRING_ELT(texts, i)), &n);
-    if (rest && *rest == '/') rest = short_whole(rest + 1, &d);
-    REAL(result)[i] = rest && *rest == 0 && d > 0 ? n / d : NA_REAL;
+    wide n, d = 1;
+    const char *rest = STRING_ELT(texts, i) == NA_STRING ? NULL : read_whole(CHAR(STRING_ELT(texts, i)), &n);
+    if (rest && *rest == '/') rest = read_whole(rest + 1, &d);
+    REAL(result)[i] = rest && *rest == 0 && d > 0 ? double_of(n, d) : NA_REAL;
   }
   UNPROTECT(1);
   return result;

@@ -147,7 +147,7 @@ static const R_CallMethodDef calls[] = {
   {"welungad_rows", (DL_FUNC)&welungad_rows, 2},
   {"welungad_fractions", (DL_FUNC)&welungad_fractions, 2},
   {"welungad_readings", (DL_FUNC)&welungad_readings, 2},
-  {"welungad_short_doubles", (DL_FUNC)&welungad_short_doubles, 1},
+  {"welungad_doubles", (DL_FUNC)&welungad_doubles, 1},
   {"welungad_read_test", (DL_FUNC)&welungad_read_test, 2},
   {NULL, NULL, 0},
 };

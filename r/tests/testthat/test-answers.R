@@ -110,6 +110,7 @@ test_that("a report of test is read word by word", {
   }
   expect_null(read(lines[c(1, 3, 2, 4:9)]))
   expect_null(read(lines[c(1, 2, 4, 3, 5:9)]))
+  expect_null(read(c(lines[c(1, 2, 4)], sub("step 2", "step 3", lines[3]), lines[5:9])))
   expect_null(read(sub("rejected H2 H10", "rejected H10 H2", lines)))
   expect_null(read(sub("kept H1", "kept H2", lines)))
 })

@@ -27,6 +27,7 @@ test_that("another double is read as the shortest decimal that is read back", {
   own <- texts$rule == "shortest decimal"
   expect_true(sum(own) > 240)
   expect_identical(as.numeric(texts$read[own]), x[own])
+  expect_identical(texts$given[own], texts$read[own])
   shorter <- mapply(function(text, value) {
     digits <- nchar(gsub("[^0-9]", "", sub("e.*", "", sub("^0[.]0*", "", text))))
     digits == 1 || as.numeric(sprintf("%.*e", digits - 2L, value)) != value
@@ -149,4 +150,16 @@ test_that("doubles of fractions are the ones that R computes", {
   expect_identical(welungad:::double_of(c("0.1", NA, "1/3", "-2", "\\epsilon", "")), c(0.1, NA, 1 / 3, -2, NA, NA))
   long <- paste0("1", strrep("0", 20), "/3", strrep("0", 20))
   expect_identical(welungad:::double_of(c(long, "1/2")), c(1 / 3, 1 / 2))
+})
+
+test_that("doubles of long fractions are those of gmp", {
+  set.seed(12)
+  digits <- function(most) paste0(sample(1:9, 1), paste(sample(0:9, sample(0:most, 1), TRUE), collapse = ""))
+  texts <- replicate(2000, paste0(digits(37), "/", digits(37)))
+  own <- as.character(gmp::as.bigq(texts))
+  expect_identical(welungad:::double_of(own), welungad:::as_double(gmp::as.bigq(own)))
+  most <- paste0(strrep("9", 38), c("/1", "/7", paste0("/", strrep("9", 37), "8")))
+  expect_identical(welungad:::double_of(most), welungad:::as_double(gmp::as.bigq(most)))
+  longer <- paste0(strrep("9", 39), "/", strrep("9", 38), "7")
+  expect_identical(welungad:::double_of(longer), welungad:::as_double(gmp::as.bigq(longer)))
 })
