@@ -40,11 +40,11 @@ mapped_within f xs n h = subst (λ k. n < k) (sym (length-map xs f)) h
 
 module _ (T : Frame) where
   text_none : text_of [] ≡ []
-  unfolding forms_text text_of
+  unfolding text_of
   text_none = refl
 
   text_cons : (f : Words) (fs : List Words) → text_of (f ∷ fs) ≡ line_text f ++ text_of fs
-  unfolding forms_text text_of
+  unfolding text_of
   text_cons f fs = refl
 
   text_append : (fs gs : List Words) → text_of (fs ++ gs) ≡ text_of fs ++ text_of gs
