@@ -26,7 +26,7 @@ use Rattle.study_register.specs.declared.fault.RegisterFault.{RegisterFault}
 use Rattle.study_register.specs.declared.fault.RegisterFault.TheVariants.{BadLook, Wide, Fault, NoMemory}
 use Rattle.study_register.proofs.EachEnd.{look_ends, each_opening_ends}
 use Rattle.study_register.proofs.TakenLooks.{taken_study, taken_is_study}
-use Rattle.study_answers.specs.CommandLanguage.{commands_of as commands_said}
+use Rattle.study_answers.specs.Commands.{commands_of as commands_said}
 use Rattle.study_answers.specs.CommandFaults.{on_line}
 use Rattle.study_answers.specs.CommandLines.{IsBelow}
 use Rattle.study_answers.specs.Replies.{taken_in, looks_taken, IsReply, AreReplies, IsBreak, IsFirstBreak}
