@@ -23,9 +23,15 @@ Draws a circle with label and weight for each hypothesis, and an arrow for each 
   \item{...}{unused.}
 }
 \details{
-If a label does not fit into its circle, labels and weights are written beside the circles. More than 48 arrows have no numbers: if they have at most four, each has a colour, and a line below has the number of each colour.
+Labels are wrapped at their blanks. If they do not fit into the circles, they are written beside them: below the circles for a
+\code{layout} of your own, else outwards from the middle.
 
-In a picture of several graphs with shares each has a colour. In one of a decision the rejected hypotheses are green; in one of updated graphs the removed ones are grey.
+The numbers of the edges are written at the arrows, unless there are more than 48, or they would hide each other. Then each number has
+a colour, and a line below the picture says which. If there are more than eight numbers, or several graphs, \code{print} shows the
+numbers. In such a picture an arrow with two heads is two edges with the same number. A number with more than seven letters is shown as
+a decimal of four digits, after a sign for \sQuote{about}.
+
+In a picture of several graphs each has a colour, and the line below has their shares. In one of a decision the rejected hypotheses are green; in one of updated graphs the removed ones are grey.
 }
 \value{
 The object, invisibly.
