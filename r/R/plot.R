@@ -59,8 +59,7 @@ draw_graph <- function(graph, all, layout, main, cex, marked = NULL) {
   old <- graphics::par(mar = c(0.5, 0.5, if (is.null(main)) 0.5 else 2, 0.5))
   on.exit(graphics::par(old))
   graphics::plot.new()
-  picture <- planned(graph, all, nodes, cex, edges_in(graph) > most_arrow_texts)
-  if (picture$is_crowded && !is.null(picture$boxes)) picture <- planned(graph, all, nodes, cex, TRUE)
+  picture <- picture_of(graph, all, nodes, cex)
   open_window(picture$points, picture$unit, picture$key$height)
   write_title(main, cex)
   for (it in picture$arrows) draw_arrow(it, cex * if (picture$is_crowded) 0.5 else 1)
@@ -68,6 +67,12 @@ draw_graph <- function(graph, all, layout, main, cex, marked = NULL) {
   write_labels(nodes, picture$plan, picture$unit)
   if (!picture$is_crowded) write_arrow_texts(picture$arrows, picture$boxes, picture$unit)
   draw_key(picture$key, picture$unit)
+}
+
+# What a picture has: texts at its arrows, unless there are too many of them or they would hide each other.
+picture_of <- function(graph, all, nodes, cex) {
+  picture <- planned(graph, all, nodes, cex, edges_in(graph) > most_arrow_texts)
+  if (picture$is_crowded && !is.null(picture$boxes)) planned(graph, all, nodes, cex, TRUE) else picture
 }
 
 # What a picture has and where: its arrows, how its labels are written, the inches of a unit, and the key below it. A crowded picture has

@@ -28,6 +28,13 @@ An object of class \code{welungad_bounds} with the parts \code{sets} and \code{b
 \references{
 Goeman, J. J. and Solari, A. (2011) Multiple testing for exploratory research. \emph{Statistical Science} \bold{26}, 584--597.
 \doi{10.1214/11-STS356}
+
+Simes, R. J. (1986) An improved Bonferroni procedure for multiple tests of significance. \emph{Biometrika} \bold{73}, 751--754.
+\doi{10.1093/biomet/73.3.751}
+
+Bretz, F., Posch, M., Glimm, E., Klinglmueller, F., Maurer, W. and Rohmeyer, K. (2011) Graphical approaches for multiple comparison
+procedures using weighted Bonferroni, Simes, or parametric tests. \emph{Biometrical Journal} \bold{53}, 894--913.
+\doi{10.1002/bimj.201000239}
 }
 \seealso{
 \code{\link{graph_test_closure}}

@@ -36,7 +36,7 @@ The path of the file, invisibly.
 \code{\link{graph_evidence}} for what a reviewer can check, \code{\link{plot.welungad_graph}} for pictures.
 }
 \examples{
-\dontshow{if (welungad_found()) withAutoprint(\{ # examples need the program or its library}
+\dontshow{if ("program" \%in\% welungad_ways()) withAutoprint(\{ # the example needs the program}
 graph <- graph_create(c("low dose" = 1 / 2, "high dose" = 1 / 2), rbind(0:1, 1:0))
 x <- graph_test(graph, p = c("low dose" = 0.01, "high dose" = 0.02))
 page <- tempfile(fileext = ".html")

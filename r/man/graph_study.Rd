@@ -27,6 +27,10 @@ A study needs the program: its C library opens no files.
 An object of class \code{welungad_study} with the parts \code{records} (how many looks were kept before this call), \code{taken} (how
 many are now), \code{looks}, \code{rejections} and \code{refused} (those of this call), and \code{rejected} (by all looks).
 }
+\references{
+Maurer, W. and Bretz, F. (2013) Multiple testing in group sequential trials using graphical approaches. \emph{Statistics in
+Biopharmaceutical Research} \bold{5}, 311--320. \doi{10.1080/19466315.2013.807748}
+}
 \seealso{
 \code{\link{graph_stages}} decides all looks at once, without a file.
 }

@@ -21,6 +21,14 @@ not give the verdicts of the program.
 An object of class \code{welungad_closure} with the parts \code{sets}, \code{weights}, \code{local}, \code{closed}, \code{bound} and
 \code{rejected}. It has methods for \code{print} and \code{as.data.frame}, both with \code{exact = TRUE} for fractions.
 }
+\references{
+Marcus, R., Peritz, E. and Gabriel, K. R. (1976) On closed testing procedures with special reference to ordered analysis of variance.
+\emph{Biometrika} \bold{63}, 655--660. \doi{10.1093/biomet/63.3.655}
+
+Bretz, F., Posch, M., Glimm, E., Klinglmueller, F., Maurer, W. and Rohmeyer, K. (2011) Graphical approaches for multiple comparison
+procedures using weighted Bonferroni, Simes, or parametric tests. \emph{Biometrical Journal} \bold{53}, 894--913.
+\doi{10.1002/bimj.201000239}
+}
 \seealso{
 \code{\link{graph_bounds}}
 }

@@ -30,6 +30,10 @@ An object of class \code{welungad_update} with the parts \code{initial_graph}, \
 graphs before the first removal and after each) and \code{compared}. \code{plot} draws all graphs; \code{print(x, all = TRUE)}
 shows them, and \code{as.data.frame} has their weights.
 }
+\references{
+Bretz, F., Maurer, W., Brannath, W. and Posch, M. (2009) A graphical approach to sequentially rejective multiple test procedures.
+\emph{Statistics in Medicine} \bold{28}, 586--604. \doi{10.1002/sim.3495}
+}
 \seealso{
 \code{\link{graph_test}}
 }

@@ -15,4 +15,19 @@ Begin with \code{\link{graph_create}} and \code{\link{graph_test}}. \code{\link{
 gMCP and graphicalMCP. \code{system.file("walkthrough", "walkthrough.R", package = "welungad")} is the script of the walkthrough, and
 \code{walkthrough.txt} beside it is its output.
 }
+\references{
+Bretz, F., Maurer, W., Brannath, W. and Posch, M. (2009) A graphical approach to sequentially rejective multiple test procedures.
+\emph{Statistics in Medicine} \bold{28}, 586--604. \doi{10.1002/sim.3495}
+}
+\seealso{
+\code{\link{graph_create}}, \code{\link{graph_test}}, \code{\link{print.welungad_test}} for printed results and tables.
+}
+\examples{
+welungad_way()
+as_exact(1 / 3)
+\dontshow{if (welungad_found()) withAutoprint(\{ # examples need the program or its library}
+holm <- graph_catalogue("holm", 3)
+graph_test(holm, c(0.01, 0.005, 0.02), alpha = 0.025)
+\dontshow{\})}
+}
 \keyword{package}

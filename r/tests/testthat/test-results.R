@@ -161,6 +161,71 @@ test_that("pictures are drawn", {
   })
 })
 
+# A chain of hypotheses with long labels.
+chain_of <- function(n) {
+  edges <- matrix(0, n, n)
+  edges[cbind(seq_len(n - 1), seq_len(n - 1) + 1)] <- 1
+  graph_create(c(1, rep(0, n - 1)), edges, labels = paste("Change from baseline in the secondary endpoint number", seq_len(n)))
+}
+
+# What is planned for the picture of a graph on a page of 7 by 7 inches.
+plan_of <- function(graph, layout = NULL) {
+  grDevices::pdf(NULL)
+  on.exit(grDevices::dev.off())
+  graphics::plot.new()
+  nodes <- welungad:::nodes_of(graph, graph, layout, NULL)
+  picture <- welungad:::picture_of(graph, graph, nodes, 1)
+  plan <- picture$plan
+  boxes <- welungad:::boxes_of(plan$points, plan$unit)
+  list(
+    side = plan$side,
+    is_crowded = picture$is_crowded,
+    is_clear = plan$side == "inside" || welungad:::are_clear(plan$labels, nodes, plan$texts, plan$size, plan$unit),
+    is_whole = all(apply(boxes[, 3:4], 2, max) - apply(boxes[, 1:2], 2, min) <= graphics::par("pin") + 1e-6)
+  )
+}
+
+test_that("labels of pictures are whole, and hide neither each other nor circles", {
+  each_way(function(way) {
+    for (n in c(2, 3, 8, 12, 16, 24, 40)) {
+      plan <- plan_of(chain_of(n))
+      expect_true(plan$is_clear && plan$is_whole, info = n)
+      expect_equal(plan$side, if (n <= 8) "inside" else if (n <= 12) "outwards" else "rays", info = n)
+    }
+    plan <- plan_of(chain_of(24), cbind(rep(1:6, 4), rep(1:4, each = 6)))
+    expect_true(plan$is_clear && plan$is_whole)
+    expect_equal(plan_of(holm(24))$side, "inside")
+  })
+})
+
+test_that("numbers of edges that would hide each other are below the picture", {
+  each_way(function(way) {
+    expect_false(plan_of(diabetes())$is_crowded)
+    expect_false(plan_of(holm(6))$is_crowded)
+    expect_true(plan_of(holm(8))$is_crowded)
+    expect_true(plan_of(graph_catalogue("improved-parallel", 4, 4))$is_crowded)
+    file <- tempfile(fileext = ".pdf")
+    grDevices::pdf(file)
+    on.exit(unlink(file))
+    plot(graph_catalogue("improved-parallel", 4, 4))
+    plot(graph_entangle(holm(8), graph_catalogue("fixed-sequence", 8), shares = c(1 / 2, 1 / 2)), main = "two graphs")
+    plot(graph_steps(graph_test(chain_of(5), c(0.01, 0.01, 0.01, 1, 1))))
+    grDevices::dev.off()
+    expect_true(file.size(file) > 1000)
+  })
+})
+
+test_that("numbers in pictures are short", {
+  expect_equal(welungad:::short_text("3333/10000"), "0.3333")
+  expect_equal(welungad:::short_text("1/3"), "1/3")
+  expect_true(is.expression(welungad:::short_text("1-\\epsilon")))
+  expect_true(is.expression(welungad:::short_text("12345678/98765432")))
+  expect_equal(welungad:::plain_text("1-1/2*\\epsilon"), "1-1/2*eps")
+  expect_equal(welungad:::plain_text("12345678/98765432"), "about 0.125")
+  expect_equal(welungad:::columns_for(5, c(7, 7)), 3)
+  expect_equal(welungad:::columns_for(4, c(7, 2)), 4)
+})
+
 test_that("parts of results are taken, and summaries are made", {
   each_way(function(way) {
     p <- c(0.018, 0.01, 0.105, 0.006)
