@@ -138,9 +138,11 @@ hull_of <- function(nodes, arrows) {
   free_points(apply(rbind(nodes$at - 1.05 * nodes$radius, nodes$at + 1.05 * nodes$radius, paths), 2, range))
 }
 
-# The most inches of a unit for which points with what is free around them have room.
+# The most inches of a unit for which points with what is free around them have room. On a page that is too small for the texts it is tiny.
 unit_for <- function(points, room) {
-  min(unit_along(points$x, points$left, points$right, room[1]), unit_along(points$y, points$down, points$up, room[2]))
+  x <- unit_along(points$x, points$left, points$right, room[1])
+  y <- unit_along(points$y, points$down, points$up, room[2])
+  max(min(x, y), 0.01)
 }
 
 unit_along <- function(x, before, after, room) {
