@@ -70,6 +70,8 @@ draw_head <- function(path, colour, cex) {
   last <- nrow(path)
   begin <- path[last - 3L, ]
   end <- path[last, ]
+  # on a tiny page it would have no direction
+  if (sqrt(sum((end - begin)^2)) < graphics::xinch(0.002)) return(invisible())
   graphics::arrows(begin[1], begin[2], end[1], end[2], length = 0.1 * cex, angle = 22, col = colour)
 }
 
