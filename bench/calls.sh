@@ -33,6 +33,7 @@ for sizes in 'holm-3 2000 50' 'full-16 200 50' 'full-64 5 10'; do
     set -- $from_python
     row 'Python run' "$name" "$1" "$3"
     row 'Python test' "$name" "$2" "$3"
+    row 'Python Graph.test' "$name" "$4" "$3"
 done
 
 cc -O2 -Wall -Wextra -o "$out/rows" "$here/rows.c" "$here/../c/out/libwelungad.a"
