@@ -434,6 +434,17 @@ class Install(Room):
         with open(os.path.join(self.prefix, "share", "welungad", "identity"), encoding="utf-8") as file:
             self.assertIn("checkout edited\n", file.read())
 
+    def test_hook(self):
+        """Whether what a hook names of another repository is not taken for what the checkout is."""
+        self.install()
+        wanted = snapshot(self.prefix)
+        other = self.path("other")
+        self.git("init", "-q", other)
+        own = os.path.join(other, ".git")
+        for name in ("GIT_DIR", "GIT_COMMON_DIR", "GIT_WORK_TREE", "GIT_INDEX_FILE", "GIT_OBJECT_DIRECTORY"):
+            self.install(**{name: os.path.join(own, "index") if name == "GIT_INDEX_FILE" else own})
+            self.assertEqual(snapshot(self.prefix), wanted)
+
     def test_another_program(self):
         """Whether a program that isn't the one that was proved, or was proved from another commit, is refused."""
         self.write("crates/welungad/src/main.rt", "fn main() { }\n")
@@ -468,6 +479,9 @@ class Install(Room):
         self.is_refused(self.run_script("install", self.prefix), "other sources")
         self.make_library()
         self.write("c/welungad.h", content("c", "welungad.h") + "\n")
+        self.is_refused(self.run_script("install", self.prefix), "welungad.h or VERSION is edited")
+        self.write("c/welungad.h", content("c", "welungad.h"))
+        self.write("VERSION", "9.9.9\n")
         self.is_refused(self.run_script("install", self.prefix), "welungad.h or VERSION is edited")
         self.assertFalse(os.path.exists(self.prefix))
 
@@ -616,6 +630,25 @@ class Install(Room):
             self.run_script("welungad")
             self.make_library()
             self.is_refused(self.run_script("install", self.prefix, user=NOBODY), "can't be written")
+            os.makedirs(os.path.join(self.prefix, "share"))
+            os.chown(self.prefix, NOBODY, NOBODY)
+            before = snapshot(self.prefix)
+            self.is_refused(self.run_script("install", self.prefix, user=NOBODY), "share can't be written")
+            self.assertEqual(snapshot(self.prefix), before)
+
+    def test_not_removable(self):
+        """Whether `uninstall` removes nothing where it can't write, and nothing outside of the prefix, whatever the list says."""
+        self.install()
+        before = snapshot(self.prefix)
+        if IS_ROOT:
+            self.is_refused(self.run_script("uninstall", self.prefix, user=NOBODY), "can't be written")
+            self.assertEqual(snapshot(self.prefix), before)
+        self.write("../outside/a", "another's")
+        with open(os.path.join(self.prefix, "share", "welungad", "installed"), "a", encoding="utf-8") as file:
+            file.write("../outside/a\nlib/../../outside/a\n../outside/\n")
+        self.uninstall()
+        self.assertTrue(os.path.exists(self.path("outside", "a")))
+        self.assertFalse(os.path.exists(self.prefix))
 
 
 @HAS_GIT
@@ -781,7 +814,17 @@ class Configure(Room):
             self.assertEqual(written, "")
         self.write("../a prefix/lib/libwelungad.a", "garbage")
         self.is_refused(self.configure(WELUNGAD_PREFIX=prefix)[0], "not the library that was proved")
-        os.remove(os.path.join(prefix, "share", "welungad", "identity"))
+        os.remove(os.path.join(prefix, "lib", "libwelungad.a"))
+        self.write("../a prefix/lib/libwelungad.so", "garbage")
+        self.is_refused(self.configure(WELUNGAD_PREFIX=prefix)[0], "libwelungad.so is not the library that was proved")
+        self.assertEqual(self.run_script("install", prefix)[0], 0)
+        identity = os.path.join(prefix, "share", "welungad", "identity")
+        with open(identity, encoding="utf-8") as file:
+            text = file.read()
+        for line in ("library built edited", "library built unknown", "built edited"):
+            self.write(identity, re.sub(rf"(?m)^{line.rpartition(' ')[0]} .*$", line, text))
+            self.is_refused(self.configure(WELUNGAD_PREFIX=prefix)[0], "edited and not committed")
+        os.remove(identity)
         self.is_refused(self.configure(WELUNGAD_PREFIX=prefix)[0], "nothing says which library")
         self.write("c/calls.c", "edited\n")
         self.make_library()

@@ -401,6 +401,12 @@ class ClosedTest(unittest.TestCase):
         case = "alpha 1\nhypotheses A B C\np 0 0 0\nweights 1/2 0 1/4\nedge A B 1\nedge B A 1-\\epsilon\nedge B C \\epsilon\n"
         self.assertIn("set C=3/4 rejected by C", self.lines(case, "--sets")[1])
 
+    def test_no_weight(self):
+        """Whether a p-value of 0 rejects nothing at a weight of 0."""
+        case = "alpha 1\nhypotheses A B\np 1/2 0\nweights 1/4 0\n"
+        sets = ["set A=1/4 B=0 not rejected", "set B=0 not rejected", "set A=1/4 not rejected"]
+        self.assertEqual(self.lines(case, "--sets"), (0, [*sets, "alpha 1", "rejected", "kept A in A B", "kept B in A B", "end"]))
+
     def test_limits(self):
         """Whether more than 12 hypotheses are refused, and cases that check_evidence.py refuses."""
         names = " ".join(f"H{i}" for i in range(13))
