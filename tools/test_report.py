@@ -233,6 +233,21 @@ class Pages(Form):
                 report.page(CASE.replace(old, new), answering(canon=(0, CANON)))
         with self.assertRaises(reports.NotAReport):
             report.page(CASE, lambda words, case: (0, START) if (words[0], case) == ("canon", CANON) else answering()(words, case))
+        sheet = "hypothesis,weight,p,H1,H2\nH1,1/2,0.025,0,0\nH2,0.5,0.026,0,0\n"
+        whole = '{"alpha":"0.05","hypotheses":["H1","H2"],"p":["1/40","0.026"],"components":[{"weights":["1/2","1/2"],"edges":[]}]}'
+        for form, alpha, given in [("csv", "0.05", sheet), ("json", None, whole)]:
+            self.assertIn("<h1>", report.page(given, answering(canon=CANON), form=form, alpha=alpha))
+            with self.subTest(form), self.assertRaises(reports.NotAReport):
+                report.page(given.replace("0.026", "0.027"), answering(canon=CANON), form=form, alpha=alpha)
+
+    def test_twice(self):
+        """Whether no report rejects a hypothesis twice."""
+        again = TEST.replace("kept H2", "step 2 H1 p 1/40 weight 1/2\nkept H2")
+        with self.assertRaisesRegex(reports.NotAReport, "line 3: H1 is rejected twice"):
+            reports.read_test(again, ["H1", "H2"])
+        again = LOOKS.replace("arrive OS 1 1/50\n", "arrive OS 1 1/50\nreject PFS stage 1 weight 1\n")
+        with self.assertRaisesRegex(reports.NotAReport, "line 5: PFS is rejected twice"):
+            reports.read_stages(again, ["PFS", "OS"])
 
     def test_weights_disagree(self):
         """Whether there is no picture if the program's weights are not those of the graph that is drawn."""
