@@ -72,7 +72,7 @@ class Order(unittest.TestCase):
     @unittest.skipUnless(numpy, "numpy is missing")
     def test_numpy(self):
         self.assertEqual(_hypotheses.in_order(numpy.array([0.5, 0.25]), AB, "p"), [0.5, 0.25])
-        for given in [numpy.array([[0.5, 0.25]]), numpy.array(0.5), numpy.array([0.5, 0.25], dtype="float32")]:
+        for given in [numpy.array([[0.5, 0.25]]), numpy.array(0.5), numpy.array([0.5, 0.25], dtype="float32"), numpy.array([0, 1], dtype="m8[ns]")]:
             with self.subTest(given), self.assertRaisesRegex(TypeError, "^p is"):
                 _hypotheses.in_order(given, AB, "p")
 
@@ -85,7 +85,7 @@ class Order(unittest.TestCase):
             with self.subTest(given), self.assertRaisesRegex(ValueError, "^p"):
                 _hypotheses.in_order(given, AB, "p")
         for given in [pandas.Series([1.0, 2.0]).sort_values(ascending=False), pandas.DataFrame({"A": [1.0], "B": [2.0]}),
-                      pandas.Series([1.0, 2.0], index=AB, dtype="float32")]:
+                      pandas.Series([1.0, 2.0], index=AB, dtype="float32"), pandas.Series(pandas.to_timedelta([0, 1]))]:
             with self.subTest(given), self.assertRaisesRegex(TypeError, "^p"):
                 _hypotheses.in_order(given, AB, "p")
 

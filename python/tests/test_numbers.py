@@ -254,6 +254,11 @@ class Kinds(unittest.TestCase):
                       numpy.array([[0.5]]), numpy.datetime64("2020-01-01")]:
             with self.subTest(repr(given)), self.assertRaises(TypeError):
                 welungad.as_exact(given)
+        # Python has these as whole numbers of nanoseconds
+        for given in [numpy.timedelta64(1, "ns"), numpy.datetime64(0, "ns"), numpy.timedelta64(1), numpy.array(1, dtype="m8[ns]")]:
+            for call in [_numbers.numeral, _numbers.whole]:
+                with self.subTest(repr(given)), self.assertRaisesRegex(TypeError, "^it is of type (timedelta|datetime)64.*, and times are no numbers$"):
+                    call(given, "it")
         for given in [numpy.float64("nan"), numpy.float64(-0.1)]:
             with self.subTest(given), self.assertRaises(ValueError):
                 welungad.as_exact(given)

@@ -99,6 +99,12 @@ class Stages(unittest.TestCase):
         by_column = pandas.DataFrame(LEVELS)
         for levels in [by_column, by_column.transpose(), by_column[["PFS", "overall survival"]]]:
             self.assertEqual(graph.stages(levels, looks, alpha=0.05).case, wanted)
+        for stages in [[1, 2], ["interim", "final"], ["week 12", "week 104"], ["IA 1", "final"]]:
+            self.assertEqual(graph.stages(by_column.set_axis(stages), looks, alpha=0.05).case, wanted)
+        for stages in [[2, 1], ["stage 2", "stage 1"], ["2", "1"], ["week 104", "week 12"]]:
+            for levels in [by_column.set_axis(stages), by_column.set_axis(stages).transpose()]:
+                with self.subTest(stages), self.assertRaisesRegex(ValueError, "^levels: the stages are .*, and levels are given from the first"):
+                    graph.stages(levels, looks, alpha=0.05)
         both = by_column.rename(index={0: "PFS", 1: "overall survival"})
         with self.assertRaisesRegex(ValueError, "^levels: both the rows and the columns"):
             graph.stages(both, (), alpha=0.05)

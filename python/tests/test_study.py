@@ -1,4 +1,5 @@
 """Tests of studies: the file of looks, the case beside it, and what passes for the program."""
+import errno
 import os
 import stat
 import tempfile
@@ -8,7 +9,7 @@ from unittest import mock
 
 import places
 import welungad
-from welungad import _program
+from welungad import _program, _study
 
 CASE = places.example("study.txt")
 OTHER_ORDER = CASE.replace("hypotheses H1 H2", "hypotheses H2 H1").replace("spend H1 1/2 1/2\nspend H2 1/2 1/2", "spend H2 1/2 1/2\nspend H1 1/2 1/2")
@@ -147,6 +148,23 @@ class Studies(Rooms):
         store = os.path.join(self.room, "--looks of 'ü' $x.db")
         self.assertTrue(welungad.Study(CASE, store).look("H1", 1, 0.1))
         self.assertTrue(os.path.isfile(store) and os.path.isfile(store + ".case"))
+
+
+class Files(Rooms):
+    """Whether the case beside a file of looks is there as a whole or not at all."""
+
+    def test_a_full_disk(self):
+        with mock.patch.object(os, "fsync", side_effect=OSError(errno.ENOSPC, "No space left on device")), self.assertRaises(OSError):
+            _study._write_new(self.store, b"alpha 1/40\n")
+        self.assertEqual(os.listdir(self.room), [])
+
+    def test_a_file_system_without_links(self):
+        with mock.patch.object(os, "link", side_effect=OSError(errno.EPERM, "Operation not permitted")):
+            for text in [b"alpha 1/40\n", b"alpha 1/20\n"]:
+                _study._write_new(self.store, text)
+        with open(self.store, "rb") as file:
+            self.assertEqual(file.read(), b"alpha 1/40\n")
+        self.assertEqual(os.listdir(self.room), ["looks.db"])
 
 
 class Programs(Rooms):

@@ -169,14 +169,21 @@ def _texts(found: Any) -> Iterator[str]:
         yield found
 
 
+def _is_of_times(value: Any) -> bool:
+    """Whether something has the times or spans of numpy, which are whole numbers of nanoseconds to Python."""
+    return getattr(getattr(value, "dtype", None), "kind", "") in ("m", "M")
+
+
 def plain(value: Any, place: str) -> Any:
     """Returns what an array, or a scalar of numpy, holds, as lists and numbers of Python.
 
-    `TypeError`: its numbers have fewer digits than a double, so that they are not the doubles that they look like; or numpy has
-    turned doubles into texts, since there was a text among them.
+    `TypeError`: its numbers have fewer digits than a double, so that they are not the doubles that they look like; they are times; or
+    numpy has turned doubles into texts, since there was a text among them.
     """
     dtype = getattr(value, "dtype", None)
     kind = getattr(dtype, "kind", "")
+    if _is_of_times(value):
+        raise TypeError(f"{place} is of type {dtype}, and times are no numbers")
     if kind == "f" and getattr(dtype, "itemsize", 8) != 8:
         raise TypeError(f"{place} is of type {dtype}, whose numbers are not doubles: give doubles, fractions or texts")
     found = value.tolist()
@@ -209,7 +216,7 @@ def numeral(value: Given, place: str) -> str:
         if not 0 <= value <= 1:
             raise ValueError(f"{place} is {float(value)!r}, and not from 0 to 1")
         return fraction_text(read_double(float(value)))
-    if isinstance(value, Rational):
+    if isinstance(value, Rational) and not _is_of_times(value):
         if max(int(value.numerator).bit_length(), int(value.denominator).bit_length()) > _MOST_BITS:
             raise ValueError(f"{place} has too many digits")
         return fraction_text(value)

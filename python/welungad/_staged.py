@@ -1,6 +1,7 @@
 """Staged trials: the levels that hypotheses spend over the stages, and the looks as they arrive, as a case has them."""
+import re
 from fractions import Fraction
-from typing import Any, List, Mapping, NamedTuple, Sequence, Tuple
+from typing import Any, List, Mapping, NamedTuple, Optional, Sequence, Tuple
 
 from ._hypotheses import frame_labels, frame_rows, in_order, is_frame, order_of, rows_of, values_of
 from ._library import kind_of
@@ -37,6 +38,14 @@ def _value(text: str, place: str) -> Fraction:
     return value
 
 
+def _hold_stages(stages: Optional[List[Any]]) -> None:
+    """Refuses labels of stages that have falling numbers: levels are taken in the order in which they are given."""
+    found = [re.fullmatch("[^0-9]*([0-9]{1,9})[^0-9]*", str(label)) for label in stages or ()]
+    numbers = [int(it[1]) for it in found if it]
+    if len(numbers) == len(found) and numbers != sorted(numbers):
+        raise ValueError(f"levels: the stages are {', '.join(map(repr, stages or ()))}, and levels are given from the first stage to the last")
+
+
 def _frame_levels(given: Any, labels: Sequence[str]) -> List[List[Any]]:
     """Returns the levels of each hypothesis, of a frame whose rows or columns have the labels of the hypotheses."""
     rows, columns = frame_labels(given)
@@ -45,6 +54,7 @@ def _frame_levels(given: Any, labels: Sequence[str]) -> List[List[Any]]:
     if by_row == by_column:
         raise ValueError(f"levels: {'both' if by_row else 'neither'} the rows {'and' if by_row else 'nor'} the columns have the labels "
                          "of the hypotheses, so that it is not said which are the stages")
+    _hold_stages(columns if by_row else rows)
     found = frame_rows(given, "levels")
     lists = found if by_row else [list(column) for column in zip(*found)]
     return [lists[at] for at in order_of(rows if by_row else columns, labels, "levels")]  # type: ignore[arg-type]

@@ -38,12 +38,12 @@ def _write_new(path: str, text: bytes) -> None:
             file.write(text)
             file.flush()
             os.fsync(file.fileno())
-        with contextlib.suppress(FileExistsError):
+        try:
             os.link(temporary, path)
-    except OSError:
-        if not os.path.exists(temporary) or os.path.exists(path):
-            raise
-        os.rename(temporary, path)
+        except OSError:
+            # Not every file system has links. Only here the file is whole: on a full disk the part above fails.
+            if not os.path.exists(path):
+                os.rename(temporary, path)
     finally:
         with contextlib.suppress(FileNotFoundError):
             os.unlink(temporary)
