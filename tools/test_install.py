@@ -622,6 +622,23 @@ class Install(Room):
                 self.uninstall()
                 self.assertEqual(snapshot(self.prefix), empty)
 
+    def test_full_disk(self):
+        """Whether a list or a folder that can't be written leaves a prefix that is there as it was."""
+        self.write("../a prefix/bin/other", "another program")
+        before = snapshot(self.prefix)
+        for tool, numbers in (("sort", range(1, 5)), ("mkdir", (20, 24))):
+            for number in numbers:
+                self.write(f"../full/{tool}", f'#!/bin/sh\necho x >>"$COUNT"\n[ "$(grep -c . "$COUNT")" -ne {number} ] || exit 2\n'
+                           f'exec {shutil.which(tool)} "$@"\n', 0o755)
+                path = f"{self.path('full')}:{self.environment['PATH']}"
+                self.assertNotEqual(self.run_script("install", self.prefix, PATH=path, COUNT=self.path("count"))[0], 0, (tool, number))
+                self.assertEqual(snapshot(self.prefix), before)
+                os.remove(self.path("count"))
+            shutil.rmtree(self.path("full"))
+        self.install()
+        self.uninstall()
+        self.assertEqual(snapshot(self.prefix), before)
+
     def test_not_writable(self):
         """Whether a prefix that can't be written is named in a line."""
         if IS_ROOT:
