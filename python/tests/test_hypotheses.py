@@ -52,6 +52,12 @@ class Order(unittest.TestCase):
             with self.subTest(given):
                 self.assertEqual(_hypotheses.in_order(given, AB, "p"), [1, 2])
 
+    def test_one_label_begins_another(self):
+        for labels in [("A", "AB", "ABC"), ("H1", "H10", "H1 "), ("", " ", "  ")]:
+            given = dict(zip(labels, (1, 2, 3)))
+            for order in [labels, labels[::-1], labels[1:] + labels[:1]]:
+                self.assertEqual(_hypotheses.in_order({it: given[it] for it in order}, labels, "p"), [1, 2, 3])
+
     def test_what_cannot_be_matched(self):
         for given, message in [
             ([1], "^p has 1 values, and there are 2 hypotheses$"),

@@ -145,6 +145,8 @@ class Stamps(Rooms):
         _library.hold(self.put("lib/libwelungad.so", b"abc"))
         library = self.put("c/out/libwelungad.so", b"abc")
         self.put("c/build.sh")
+        _library.hold(library)  # somebody else's
+        self.put("c/welungad.h")
         with self.assertRaisesRegex(OSError, "has no stamp beside it: run c/build.sh"):
             _library.hold(library)
 

@@ -176,6 +176,8 @@ class BesideFractions(unittest.TestCase):
         self.assertEqual(welungad.as_exact((0.1, 0.2, 0.1 + 0.2, 0.4), total="1"), [Fraction(k, 10) for k in (1, 2, 3, 4)])
         with self.assertRaisesRegex(ValueError, "^the row reads as 3/10 \\+ 3/5, which is 9/10, and not 1$"):
             welungad.as_exact([0.1 + 0.2, 0.6], total=1)
+        with self.assertRaisesRegex(ValueError, ", and not 1$"):
+            welungad.as_exact([0.5, "0.4999999999999999999"], total=1)
         for given, total in [(0.5, 1), ([0.5, True], None), ([0.5, 0.5], True), ([[0.5], [0.5]], None)]:
             with self.subTest(given), self.assertRaises(TypeError):
                 welungad.as_exact(given, total=total)

@@ -105,7 +105,7 @@ def hold(path: str) -> None:
         hold_to_stamp(path, beside)
     elif os.path.isfile(identity) and stamped(identity, path):
         hold_to_stamp(path, identity)
-    elif os.path.isfile(os.path.join(folder, "..", "build.sh")):
+    elif all(os.path.isfile(os.path.join(folder, "..", name)) for name in ("build.sh", "welungad.h")):
         raise OSError(f"{path} has no stamp beside it: run c/build.sh")
 
 
