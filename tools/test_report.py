@@ -240,6 +240,11 @@ class Pages(Form):
             with self.subTest(form), self.assertRaises(reports.NotAReport):
                 report.page(given.replace("0.026", "0.027"), answering(canon=CANON), form=form, alpha=alpha)
 
+    def test_bounds(self):
+        """Whether no bound is above the number of the hypotheses in its set."""
+        with self.assertRaisesRegex(reports.NotAReport, "line 3: it is not a bound of H2"):
+            reports.read_bounds(BOUNDS.replace("bound 0 of H2", "bound 2 of H2"), ["H1", "H2"])
+
     def test_twice(self):
         """Whether no report rejects a hypothesis twice."""
         again = TEST.replace("kept H2", "step 2 H1 p 1/40 weight 1/2\nkept H2")
@@ -387,6 +392,7 @@ class Pages(Form):
         answers = {command: given for (command, case), given in ANSWERS.items() if case == CANON} | {"start": START, "after": AFTER}
         script = """#!/bin/sh
 cat > "$0.case"
+echo "$*" >> "$0.words"
 command=$1
 if [ $1 = test ]; then
     grep -q 'p 1 1' "$0.case" && command=start
@@ -412,6 +418,26 @@ cat "$0.$command"
             page = self.check_form(test_tools.content(room, "page.html"))
             self.assertEqual(next(page.all("h1")).text(), "-- <T> ü")
             self.assertEqual([row[0] for row in rows_of(page, "decision")[1:]], ["low <dose> (H1)", "ü (H2)"])
+            self.assertNotIn("priority", test_tools.content(room, "program.words"))
+            done = subprocess.run([*words, "--priority=ratio"], cwd=room, capture_output=True, text=True, encoding="utf-8")
+            self.assertEqual((done.returncode, done.stdout, done.stderr), (0, "", ""))
+            self.assertIn("\ntest --priority ratio\n", test_tools.content(room, "program.words"))
+            self.assertIn("welungad test --priority ratio &lt; case.txt", test_tools.content(room, "page.html"))
+
+    def test_program(self):
+        """Whether the program of the installation or of the checkout that has the script is taken, and only else the one on the path."""
+        with tempfile.TemporaryDirectory() as room:
+            others = [os.path.join(room, name) for name in ("share/welungad/tools", "tools", "a/b/c/tools")]
+            places = [os.path.join(room, name) for name in ("bin/welungad", "crates/welungad/out/welungad", "a/b/c/tools/welungad")]
+            for path in [*others, *map(os.path.dirname, places)]:
+                os.makedirs(path, exist_ok=True)
+            for path in places:
+                with open(path, "w", encoding="utf-8"):
+                    os.chmod(path, 0o755)
+            with mock.patch.dict(os.environ, PATH=others[2]):
+                for here, wanted in [(others[0], places[0]), (others[1], places[1]), (others[2], places[2])]:
+                    with mock.patch.object(report, "HERE", here):
+                        self.assertEqual(os.path.normpath(report.found_program()), wanted)
 
 
 class Refusals(unittest.TestCase):
