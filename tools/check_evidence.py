@@ -5,7 +5,8 @@
 CASE and EVIDENCE are files in the formats of docs/FORMATS.md; `--alpha` gives the level of a sheet. The script shares no
 code with `welungad` and needs Python's standard library alone. It prints what `welungad check` prints, with its status:
 0 and `yes`, 1 and the first broken condition, 3 and what is malformed. Its numbers have no limit of size, so it also decides
-what `welungad` refuses as too wide (5) or as past a limit (4), but for the depth of parentheses and texts of more than 4,000 digits.
+what `welungad` refuses as too wide (5), as past a limit (4), or because a number of the evidence is too large (3). Only the depth
+of parentheses is limited, and texts of more than 4,000 digits. The stages of a case are not read: it is of the wrong kind.
 Where wide numbers occur, it says so on standard error.
 A case has hypotheses with p-values p, and components with shares; each component has weights w and edges g. Epsilon is a
 positive number below every positive fraction, and lim x is x with epsilon at 0. Evidence lists steps. Each has a hypothesis j
