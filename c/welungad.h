@@ -68,7 +68,8 @@ uint8_t welungad_run(const uint8_t *words, size_t words_len, const uint8_t *kase
  *
  * A double from 0 to 1 is read as the first of these that there is:
  * 1. the fraction of the least denominator that rounds to it, if that denominator is at most 10000;
- * 2. the decimal of the fewest places that rounds to it, if those are at most 30, and of several the nearest to the double;
+ * 2. the decimal of the fewest places that rounds to it, if those are at most 30: of several the nearest to the double, of two as
+ *    near the one with the even numerator;
  * 3. the double rounded up to a multiple of 10^-30.
  * Minus zero is read as 0. A NaN, a value below 0 and a value above 1 have no reading.
  *
@@ -93,9 +94,9 @@ uint8_t welungad_read(const uint64_t *bits, size_t bits_len, uint64_t *out, size
  *           With the last two no hypothesis of the row is decided, and all of its marks are 0.
  *
  * Returns WELUNGAD_DONE, and then each mark and each status of a row is written. With another status nothing is written:
- * - WELUNGAD_MALFORMED, WELUNGAD_LIMIT or WELUNGAD_TOO_WIDE: the case is refused, whatever the rows are. If its text is, welungad_run
- *   with the word "canon" answers with the line that says why. Else it has stages, or a number of the opening, before any
- *   rejection, does not fit into 128 bits;
+ * - WELUNGAD_MALFORMED, WELUNGAD_LIMIT or WELUNGAD_TOO_WIDE: the case is refused, whatever the p-values are. If its text is,
+ *   welungad_run with the word "canon" answers with the line that says why. Else it has stages. Or the lengths fit, and a number of
+ *   the opening, before any rejection, does not fit into 128 bits;
  * - WELUNGAD_LENGTHS: the lengths don't fit the number of hypotheses;
  * - WELUNGAD_NO_MEMORY: out of memory. */
 uint8_t welungad_test_rows(const uint8_t *kase, size_t kase_len, const uint64_t *p, size_t p_len, uint8_t *rejected,
