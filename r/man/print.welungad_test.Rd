@@ -76,7 +76,8 @@ class with some of the sets.
 }
 \examples{
 \dontshow{if (welungad_found()) withAutoprint(\{ # examples need the program or its library}
-graph <- graph_create(c(H1 = 1 / 2, H2 = 1 / 2, H3 = 0), rbind(c(0, 1 / 2, 1 / 2), c(1 / 2, 0, 1 / 2), 0))
+edges <- rbind(c(0, 1 / 2, 1 / 2), c(1 / 2, 0, 1 / 2), 0)
+graph <- graph_create(c(H1 = 1 / 2, H2 = 1 / 2, H3 = 0), edges)
 x <- graph_test(graph, c(H1 = 0.018, H2 = 0.01, H3 = 0.02))
 print(x, digits = 3)
 as.data.frame(x, exact = TRUE)
