@@ -15,7 +15,7 @@ leaving new (Err e) = Err e
 
 -- ---- answers
 
--- what comes next, unless there was a fault
+-- What comes next, unless there was a fault. Steps one after another are written with an operator.
 abbrev pub and_then : {A B E : Type 0} → Result A E → (A → Result B E) → Result B E
 and_then (Ok a) next = next a
 and_then (Err e) next = Err e
