@@ -146,7 +146,7 @@ module _ {K : Type 0} (F : OrderedField K) where
     | inr h ↦ rw (edge_back I j l h) (mul_zero F (chain_edge I l j))
   ]
 
-  over_one : (x : K) → x ⊗ invert 𝟙 ≡ x
+  pub over_one : (x : K) → x ⊗ invert 𝟙 ≡ x
   over_one x = elim (F.is_zero_or_not 𝟙) [
     | inl e ↦ rw (← mul_one F x, e, mul_zero F x, zero_mul F (invert 𝟘))
     | inr n ↦ ap (λ z. x ⊗ z) (sym (one_mul F (invert 𝟙)) ∙ F.mul_invert 𝟙 n) ∙ mul_one F x

@@ -7,10 +7,11 @@ use Rattle.field_core.specs.Field.{OrderedField}
 use Rattle.field_core.specs.Graph.{Graph}
 use Rattle.field_core.specs.Removal.{without}
 use Rattle.field_core.specs.Sets.{IsIn, HaveSameMembers, dropping, size_of}
-use Rattle.field_core.proofs.FieldLaws.{ring, mul_comm, mul_one, one_mul, mul_zero, zero_mul, add_zero, zero_add}
+use Rattle.field_core.proofs.FieldLaws.{ring, mul_comm, zero_mul, add_zero, zero_add}
 use Rattle.field_core.proofs.RemovalLaws.{weight_other}
 use Rattle.field_core.proofs.Live.{live_before, live_other, dropping_other}
 use Rattle.field_core.proofs.Agreement.{Agrees, edge_other}
+use Rattle.field_core.proofs.Chains.{over_one}
 use Rattle.field_core.proofs.Positions.{below_or_above}
 use Rattle.field_core.proofs.Sizes.{size_next, size_dropped, size_same, size_within}
 use Rattle.field_core.proofs.EqualShares.{AreParts, next_edge}
@@ -81,15 +82,9 @@ module _ {K : Type 0} (F : OrderedField K) where
   no_loss : (x : K) → 𝟙 ⊕ negate (𝟘 ⊗ x) ≡ 𝟙
   no_loss x = ap (λ z. 𝟙 ⊕ negate z) (zero_mul F x) ∙ ap (λ z. 𝟙 ⊕ z) (sym (zero_add F (negate 𝟘)) ∙ F.add_negate 𝟘) ∙ add_zero F 𝟙
 
-  over_one : (x : K) → x ⊗ invert 𝟙 ≡ x
-  over_one x = elim (F.is_zero_or_not 𝟙) [
-    | inl e ↦ rw (← mul_one F x, e, mul_zero F x, zero_mul F (invert 𝟘))
-    | inr n ↦ ap (λ z. x ⊗ z) (sym (one_mul F (invert 𝟙)) ∙ F.mul_invert 𝟙 n) ∙ mul_one F x
-  ]
-
   -- an edge that nothing goes through
   untouched : (e x y : K) → (e ⊕ 𝟘 ⊗ x) ⊗ invert (𝟙 ⊕ negate (𝟘 ⊗ y)) ≡ e
-  untouched e x y = ap₂ (λ s t. s ⊗ invert t) (no_way e x) (no_loss y) ∙ over_one e
+  untouched e x y = ap₂ (λ s t. s ⊗ invert t) (no_way e x) (no_loss y) ∙ over_one F e
 
   -- no edge before, and none after
   still_none : (x d : K) → (𝟘 ⊕ x ⊗ 𝟘) ⊗ invert d ≡ 𝟘
@@ -98,7 +93,7 @@ module _ {K : Type 0} (F : OrderedField K) where
   -- an edge without a way back
   one_way : (e x y : K) → (e ⊕ x ⊗ y) ⊗ invert (𝟙 ⊕ negate (x ⊗ 𝟘)) ≡ e ⊕ x ⊗ y
   one_way e x y =
-      ap (λ t. (e ⊕ x ⊗ y) ⊗ invert (𝟙 ⊕ negate t)) (mul_comm F x 𝟘) ∙ ap (λ t. (e ⊕ x ⊗ y) ⊗ invert t) (no_loss x) ∙ over_one (e ⊕ x ⊗ y)
+      ap (λ t. (e ⊕ x ⊗ y) ⊗ invert (𝟙 ⊕ negate t)) (mul_comm F x 𝟘) ∙ ap (λ t. (e ⊕ x ⊗ y) ⊗ invert t) (no_loss x) ∙ over_one F (e ⊕ x ⊗ y)
 
   -- ---- the closed form
 
