@@ -6,7 +6,7 @@ use Rattle.text_lines.specs.Forms.{Seen}
 use Rattle.text_lines.specs.Faults.{FaultAt, on_line}
 use Rattle.text_lines.specs.Forms.{Leaf, Form, Say, Line, Kinds, took_on, one_taken, leaving, read, all_read, reading, AreMany, Is}
 use Rattle.text_lines.specs.Kinds.{expected, more_lines, each_after}
-use Rattle.text_lines.proofs.FormReads.{go_on, read_say, read_then, read_more}
+use Rattle.text_lines.proofs.FormReads.{read_say, read_then, read_more}
 use Rattle.text_lines.proofs.FormEnds.{Whole, Can, can_say, can_many}
 
 module _ {L K : Type 0} (U : Kinds K) where
@@ -28,17 +28,6 @@ module _ {L K : Type 0} (U : Kinds K) where
   pub lines_taken : {A : Type 0} (l : Leaf L K A) (xs : List A) (row : Seen L) (rows : List (Seen L)) (end : ℕ) (a : A) → expected U (l row.line) ≡ Ok a
       → reading U (more_lines l xs) (row ∷ rows) end ≡ reading U (more_lines l (xs ++ a ∷ [])) rows end
   lines_taken l xs row rows end a e = lines_step l xs row rows end ∙ (rw e refl)
-
-  -- as long as there are such lines: one is taken, or something is wrong with it
-  pub more_taken : {A : Type 0} (l : Leaf L K A) (xs : List A) (row : Seen L) (rows : List (Seen L)) (end : ℕ) (a : A) → l row.line ≡ Some (Ok a)
-      → read U (more_lines l xs) (row ∷ rows) end ≡ read U (more_lines l (xs ++ a ∷ [])) rows end
-  more_taken l xs row rows end a e =
-      read_more U l (λ ys b. Say b) xs row rows end a e
-      ∙ ap (λ r. go_on U r (λ x. more_lines l (xs ++ x ∷ [])) end) (read_say U a rows end)
-
-  pub more_refused : {A : Type 0} (l : Leaf L K A) (xs : List A) (row : Seen L) (rows : List (Seen L)) (end : ℕ) (kind : K) → l row.line ≡ Some (Err kind)
-      → read U (more_lines l xs) (row ∷ rows) end ≡ Err (record { line = row.number; kind = kind })
-  more_refused l xs row rows end kind e = rw e refl
 
   -- they can end anywhere
   pub lines_can : {A : Type 0} (l : Leaf L K A) (xs : List A) → Can U (more_lines l xs) Whole

@@ -6,7 +6,7 @@ use Rattle.field_core.proofs.Results.{came_from, same_value}
 use Rattle.text_lines.specs.Forms.{Seen}
 use Rattle.text_lines.specs.Faults.{FaultAt, on_line}
 use Rattle.text_lines.specs.Forms.{Leaf, Form, Say, Line, Then, May, Many, Kinds, Took, Takes, Passes, Wrong, one_taken, then_taken, may_take, next, ended, took_on, leaving, read}
-use Rattle.text_lines.specs.Forms.{all_read, reading, Lacks, AreMany, Is, IsDocument, AreReadAs}
+use Rattle.text_lines.specs.Forms.{all_read, reading, Lacks, AreMany, Is, IsDocument}
 
 module _ {L K : Type 0} (U : Kinds K) where
   -- ---- one form at a time
@@ -168,10 +168,6 @@ module _ {L K : Type 0} (U : Kinds K) where
   read_is f [] end a rest e = ended_read f (ended U f) end a rest refl e
   read_is f (row ∷ rows) end a rest e =
       took_read f row rows end (next U f row.line) (took_is f row) (λ g. read_is g rows end) a rest e
-
-  -- what is read is what the lines say
-  pub read_as : {A : Type 0} (f : Form L K A) (rows : List (Seen L)) (end : ℕ) → AreReadAs U f rows end
-  read_as f rows end a rest = ((λ e. read_is f rows end a rest e), (λ h. is_read f rows a rest end h))
 
   -- and so is a whole text
   whole_by : {A : Type 0} (f : Form L K A) (rows : List (Seen L)) (end : ℕ) (a : A) (r : Result (A × List (Seen L)) (FaultAt K)) → read U f rows end ≡ r

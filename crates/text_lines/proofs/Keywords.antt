@@ -1,9 +1,9 @@
 -- What the first words of a line say.
-use Rattle.std.proofs.Common.{◌≡◌, inl, inr, ℕ, true, false, List, [], ◌∷◌, length, Some, None, arith}
+use Rattle.std.proofs.Common.{◌≡◌, inl, inr, ℕ, true, false, List, [], ◌∷◌, Some, None}
 use Rattle.std.specs.Str.{bytes_eq}
 use Rattle.std.proofs.lemmas.Bool.{cases_Bool}
 use Rattle.std.proofs.lemmas.Slice.Eq.{bytes_eq-Decides}
-use Rattle.text_lines.specs.Words.{words_behind, only_word}
+use Rattle.text_lines.specs.Words.{words_behind}
 
 same : (w keyword : List ℕ) → bytes_eq w keyword ≡ true → w ≡ keyword
 same w keyword e = (bytes_eq-Decides w keyword).0 e
@@ -18,24 +18,3 @@ keyword_found keyword (w ∷ ws) rest h = elim (cases_Bool (bytes_eq w keyword))
   | inl e ↦ let g : Some rest ≡ Some ws = rw e at h in let k = same w keyword e in cc
   | inr e ↦ let g : Some rest ≡ None = rw e at h in absurd (cc)
 ]
-
--- the line doesn't begin with the keyword
-pub keyword_missing : (keyword : List ℕ) (words : List (List ℕ)) → None ≡ words_behind keyword words → (rest : List (List ℕ))
-    → ¬ (words ≡ keyword ∷ rest)
-keyword_missing keyword [] h rest e = cc
-keyword_missing keyword (w ∷ ws) h rest e = elim (cases_Bool (bytes_eq w keyword)) [
-  | inl t ↦ let g : None ≡ Some ws = rw t at h in cc
-  | inr f ↦ apart w keyword f (cc)
-]
-
--- the one word
-pub word_found : (words : List (List ℕ)) (word : List ℕ) → Some word ≡ only_word words → words ≡ word ∷ []
-word_found [] word h = absurd (cc)
-word_found (w ∷ []) word h = cc
-word_found (w ∷ x ∷ ws) word h = absurd (cc)
-
--- not just one
-pub words_counted : (words : List (List ℕ)) → None ≡ only_word words → ¬ (length words ≡ 1)
-words_counted [] h e = cc
-words_counted (w ∷ []) h e = cc
-words_counted (w ∷ x ∷ ws) h e = omega arith

@@ -10,10 +10,6 @@ pub mod EndRules
 pub mod Always
 pub mod FormLines
 pub mod LineRuns
-pub mod EachRuns
 pub mod Steps
 pub mod EachSaid
 pub mod Written
-pub mod LanguageLaws
-pub mod FormLaws
-pub mod Runs

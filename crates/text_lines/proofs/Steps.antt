@@ -3,7 +3,7 @@ use Rattle.std.proofs.Common.{◌≡◌, ℕ, suc, ◌≤◌, List, [], ◌∷�
 use Rattle.field_core.specs.Answers.{mapped}
 use Rattle.field_core.proofs.Results.{same_value, same_fault}
 use Rattle.text_lines.specs.Faults.{FaultAt, on_line}
-use Rattle.text_lines.specs.Forms.{Leaf, Form, Say, Line, Then, May, Many, Kinds, Seen, Took, Takes, Passes, Wrong, may_take, next, ended, took_on, leaving, read}
+use Rattle.text_lines.specs.Forms.{Leaf, Form, Say, Line, Then, Many, Kinds, Seen, Took, Takes, Passes, Wrong, may_take, next, ended, took_on, leaving, read}
 use Rattle.text_lines.specs.Kinds.{expected, if_any, maybe}
 use Rattle.text_lines.proofs.FormReads.{go_on, read_say, read_then, read_more, read_no_more}
 use Rattle.text_lines.proofs.FormLines.{line_read}
@@ -38,25 +38,6 @@ module _ {L K : Type 0} (U : Kinds K) where
       by : (o : Option (Result A K)) → if_any o ≡ Ok (Some a) → took_on (may_take o (λ a. Say (Some a)) (Passes None)) row rows (λ g. read U g rows end) ≡ Ok (Some a, rows)
       by (Some (Ok b)) e = read_say U (Some b) rows end ∙ ap (λ o. Ok (o, rows)) (same_value (Some b) (Some a) e)
       by (Some (Err k)) e = absurd (cc e)
-      by None e = absurd (cc e)
-
-  pub maybe_other : {A : Type 0} (l : Leaf L K A) (row : Seen L) (rows : List (Seen L)) (end : ℕ) → if_any (l row.line) ≡ Ok None
-      → read U (maybe l) (row ∷ rows) end ≡ Ok (None, row ∷ rows)
-  maybe_other {A} l row rows end e = by (l row.line) e
-    where
-      by : (o : Option (Result A K)) → if_any o ≡ Ok None → took_on (may_take o (λ a. Say (Some a)) (Passes None)) row rows (λ g. read U g rows end) ≡ Ok (None, row ∷ rows)
-      by (Some (Ok b)) e = absurd (cc e)
-      by (Some (Err k)) e = absurd (cc e)
-      by None e = refl
-
-  pub maybe_refused : {A : Type 0} (l : Leaf L K A) (row : Seen L) (rows : List (Seen L)) (end : ℕ) (kind : K) → if_any (l row.line) ≡ Err kind
-      → read U (maybe l) (row ∷ rows) end ≡ Err (record { line = row.number; kind = kind })
-  maybe_refused {A} l row rows end kind e = by (l row.line) e
-    where
-      by : (o : Option (Result A K)) → if_any o ≡ Err kind
-          → took_on (may_take o (λ a. Say (Some a)) (Passes None)) row rows (λ g. read U g rows end) ≡ Err (record { line = row.number; kind = kind })
-      by (Some (Ok b)) e = absurd (cc e)
-      by (Some (Err k)) e = ap (λ k. Err (record { line = row.number; kind = k })) (let q : k ≡ kind = cc e in q)
       by None e = absurd (cc e)
 
   -- ---- items, by their first lines

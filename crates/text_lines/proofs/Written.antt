@@ -3,6 +3,7 @@ use Rattle.std.proofs.Common.{◌≡◌, List, [], ◌∷◌, ◌++◌, map, Som
 use Rattle.std.proofs.lemmas.List.{append-nil}
 use Rattle.text_lines.specs.Forms.{Leaf, Form, Say, Line, Then, Seen, Is, IsDocument}
 
+-- the lines without their numbers
 abbrev pub lines_in : {L : Type 0} → List (Seen L) → List L
 lines_in rows = map (λ row. row.line) rows
 

@@ -1,5 +1,5 @@
 -- Forms of lines: what a document is, as one value. From it follow what lines say, how they are read, and where their first fault is.
-use Rattle.std.specs.Prelude.{◌≡◌, ◌⊎◌, ◌↔◌, ℕ, List, [], ◌∷◌, ◌++◌, map, Option, Some, None, Result, Ok, Err}
+use Rattle.std.specs.Prelude.{◌≡◌, ◌⊎◌, ℕ, List, [], ◌∷◌, ◌++◌, map, Option, Some, None, Result, Ok, Err}
 use Rattle.field_core.specs.Answers.{and_then, mapped}
 use Rattle.text_lines.specs.Lines.{Row}
 use Rattle.text_lines.specs.Words.{words_of}
@@ -138,7 +138,3 @@ Is (Many {A} {B} l body before) rows all rest = (xs : List B) × (all ≡ before
 -- all lines say this
 abbrev pub IsDocument : {L K A : Type 0} → Form L K A → List (Seen L) → A → Type 0
 IsDocument f rows a = Is f rows a []
-
--- what is read is what the lines say
-abbrev pub AreReadAs : {L K A : Type 0} → Kinds K → Form L K A → List (Seen L) → ℕ → Type 0
-AreReadAs {L} {K} {A} U f rows end = (a : A) (rest : List (Seen L)) → (read U f rows end ≡ Ok (a, rest)) ↔ Is f rows a rest

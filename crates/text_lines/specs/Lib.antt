@@ -8,5 +8,3 @@ pub mod FormStatements
 pub mod Kinds
 pub mod Left
 pub mod Languages
-pub mod LanguageStatements
-pub mod FormLanguages

@@ -2,7 +2,7 @@
 use Rattle.std.specs.Prelude.{ℕ, ◌+◌, Bool, true, List, [], ◌∷◌, map, length, ◌==◌, if◌then◌else◌}
 use Rattle.std.specs.List.{slice_split}
 use Rattle.std.specs.Str.Lines.{strip_carriage_return}
-use Rattle.text_lines.specs.Words.{after_blanks, words_of}
+use Rattle.text_lines.specs.Words.{after_blanks}
 
 -- the byte that ends a line
 abbrev pub is_line_feed : ℕ → Bool
@@ -49,10 +49,6 @@ end_of bytes = length (lines_of bytes) + 1
 -- the texts of lines
 abbrev pub texts_in : List Row → List (List ℕ)
 texts_in rows = map (λ row. row.text) rows
-
--- the words of lines
-abbrev pub words_in : List Row → List (List (List ℕ))
-words_in rows = map (λ row. words_of row.text) rows
 
 -- ---- a text that is read
 
