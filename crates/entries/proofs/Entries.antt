@@ -1,6 +1,5 @@
 -- Edge expressions as a function, and their grammar.
 use Rattle.std.proofs.Common.{◌≡◌, ℕ, List, Ok, Err}
-use Rattle.std.specs.Prelude.{◌↔◌}
 use Rattle.field_core.specs.declared.ratio.Ratio.{Ratio}
 use Rattle.field_core.proofs.Decided.{is_value, is_fault, value_is, fault_is}
 use Rattle.edge_expression.specs.declared.fault.ExprFault.{ExprFault}
@@ -25,9 +24,3 @@ entry_is s e h = value_is IsEntryText IsExprFault one_entry one_expr_fault entry
 pub entry_fails : (s : List ℕ) (f : ExprFault) → entry_of s ≡ Err f → IsExprFault s f
 unfolding entry_of
 entry_fails s f h = fault_is IsEntryText IsExprFault one_entry one_expr_fault entry_not_fault s f (entry_or_fault s) h
-
-pub read_both_ways : (s : List ℕ) (e : List Ratio) → (entry_of s ≡ Ok e) ↔ IsEntryText s e
-read_both_ways s e = ((λ h. entry_is s e h), (λ h. entry_ok s e h))
-
-pub failed_both_ways : (s : List ℕ) (f : ExprFault) → (entry_of s ≡ Err f) ↔ IsExprFault s f
-failed_both_ways s f = ((λ h. entry_fails s f h), (λ h. entry_err s f h))

@@ -1,6 +1,5 @@
 -- Numerals as a function, and the grammar of numerals.
 use Rattle.std.proofs.Common.{◌≡◌, ℕ, List, Ok, Err}
-use Rattle.std.specs.Prelude.{◌↔◌}
 use Rattle.field_core.specs.View.{terms}
 use Rattle.field_core.specs.declared.ratio.Ratio.{Ratio}
 use Rattle.field_core.proofs.Decided.{is_value, is_fault, value_is, fault_is}
@@ -27,9 +26,3 @@ numeral_is s x e = value_is IsRatioText IsParseFault one_ratio one_fault ratio_n
 pub numeral_fails : (s : List ℕ) (f : NumberFault) → numeral_of s ≡ Err f → IsParseFault s f
 unfolding numeral_of
 numeral_fails s f e = fault_is IsRatioText IsParseFault one_ratio one_fault ratio_not_fault s f (reading s) e
-
-pub read_both_ways : (s : List ℕ) (x : Ratio) → (numeral_of s ≡ Ok x) ↔ IsNumeralOf s (terms x)
-read_both_ways s x = ((λ e. numeral_is s x e), (λ h. numeral_ok s x h))
-
-pub failed_both_ways : (s : List ℕ) (f : NumberFault) → (numeral_of s ≡ Err f) ↔ IsParseFault s f
-failed_both_ways s f = ((λ e. numeral_fails s f e), (λ h. numeral_err s f h))

@@ -1,8 +1,8 @@
-use Rattle.entries.proofs.Entries.{read_both_ways, failed_both_ways}
+use Rattle.entries.proofs.Entries.{entry_ok, entry_err, entry_is, entry_fails}
 use Rattle.entries.proofs.laws.entries_are_read.Goals as goal
 
 pub returns-clause-value : goal.returns-clause-value
-returns-clause-value c = read_both_ways
+returns-clause-value c = λ s e. (entry_is s e, entry_ok s e)
 
 pub returns-clause-fault : goal.returns-clause-fault
-returns-clause-fault c = failed_both_ways
+returns-clause-fault c = λ s f. (entry_fails s f, entry_err s f)
