@@ -15,5 +15,5 @@ mod opener;
 mod over_file;
 mod whole;
 
-pub use opener::{OpenFault, Opener};
+pub use opener::{NotOpened, Opener};
 pub use whole::{file_path, run_program};

@@ -4,7 +4,7 @@ ghost use Rattle.std.specs.Prelude.{◌≡◌, IfOk};
 use crate::studies::{CASE, FIRST, FIRST_TEXT};
 use field_core::{List, NoMemory};
 use graph_io::{Look, MemoryKeeper, MemorySink, MemorySource};
-use program::{OpenFault, Opener, run_program};
+use program::{NotOpened, Opener, run_program};
 use std::alloc::Global;
 use std::process::ExitCode;
 
@@ -53,16 +53,16 @@ impl Opener for Shelf {
 
     ghost is_store_at = { λ _ _ _. ⊤ };
 
-    fn open_file(&mut self, path: &str) -> Result<MemorySource, OpenFault> {
+    fn open_file(&mut self, path: &str) -> Result<MemorySource, NotOpened> {
         if note(&mut self.asked, b"file ", path).is_err() {
-            return Err(OpenFault::NoMemory);
+            return Err(NotOpened::NoMemory);
         }
         if !self.has_file {
-            return Err(OpenFault::Refused);
+            return Err(NotOpened::Refused);
         }
         match copy_of(self.alloc, self.file.as_slice()) {
             Ok(bytes) => Ok(MemorySource::new(bytes)),
-            Err(NoMemory) => Err(OpenFault::NoMemory),
+            Err(NoMemory) => Err(NotOpened::NoMemory),
         }
     }
 

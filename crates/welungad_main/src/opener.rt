@@ -2,7 +2,7 @@
 use crate::file_at::FileAt;
 use field_core::NoMemory;
 use graph_io::StdSource;
-use program::{OpenFault, Opener};
+use program::{NotOpened, Opener};
 use std::io;
 use study_sqlite::SqliteKeeper;
 
@@ -41,15 +41,15 @@ impl Opener for FileOpener {
 
     ghost is_store_at = { λ _ path store. IsUnopenedAt path (storage_of store) };
 
-    fn open_file(&mut self, path: &str) -> Result<StdSource<FileAt>, OpenFault> {
+    fn open_file(&mut self, path: &str) -> Result<StdSource<FileAt>, NotOpened> {
         let path = match String::from_str(self.rt.alloc(), path) {
             Ok(path) => path,
-            Err(_) => return Err(OpenFault::NoMemory),
+            Err(_) => return Err(NotOpened::NoMemory),
         };
         match FileAt::open(&self.rt, path) {
             Ok(file) => Ok(StdSource::new(file)),
-            Err(error) if error.kind() == io::ErrorKind::OutOfMemory => Err(OpenFault::NoMemory),
-            Err(_) => Err(OpenFault::Refused),
+            Err(error) if error.kind() == io::ErrorKind::OutOfMemory => Err(NotOpened::NoMemory),
+            Err(_) => Err(NotOpened::Refused),
         }
     }
 
