@@ -143,9 +143,8 @@ fn answer<S: Source, T: Source, K: Keeper>(
 /// `case` is standard input, and `commands` is the file that `file_word` names. `keeper` keeps the looks. `out` gets the text
 /// of the answer, or one line that says why there is none. A source that isn't read stays as it was. `commands` is read only
 /// after a case that a study can take, and then before anything is answered. `keeper` is asked only after all commands are
-/// accepted. Of a source that isn't read
-/// to its end, at most one byte more than it may have is taken. The calls of `keeper` are at most one more than the
-/// looks that the commands ask for.
+/// accepted. Of a source that isn't read to its end, at most one byte more than it may have is taken. The calls of `keeper`
+/// are at most one more than the looks that the commands ask for.
 ///
 /// First the looks that are kept are taken in their order. Then each command is replied to: a look that is taken is kept, and
 /// one that is refused changes nothing.
