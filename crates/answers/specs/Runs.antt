@@ -1,11 +1,13 @@
 -- The clause of a top call, by its status: texts, faults and sources.
 use Rattle.std.specs.Prelude.{◌≡◌, ℕ, ◌≤◌, ◌+◌, length, List, ◌⊎◌, Option, Result, Ok, Err}
 use Rattle.std.specs.Io.KnownBytes.{Appends, IsAtEnd}
+use Rattle.graph_io.specs.Causes.{Rose}
 use Rattle.graph_io.specs.Writing.{AppendsPrefix}
 use Rattle.answers.specs.declared.answer.Answer.{Answer}
 use Rattle.answers.specs.declared.refusal.Refusal.{Refusal}
 use Rattle.answers.specs.declared.stop.Stop.{Stop}
 use Rattle.answers.specs.Codes.{status_code, stop_code}
+use Rattle.answers.specs.Devices.{Writing}
 use Rattle.answers.specs.Lines.{read_fault, no_memory, keeper_fault, stop_line, refused}
 use Rattle.answers.specs.Ways.{Ways, EndsIn}
 
@@ -24,8 +26,10 @@ abbrev pub IsConcluded : ℕ → Type 0
 IsConcluded status = (status ≤ 5) ⊎ (status ≡ 9)
 
 -- A text was put without a fault of the sink, and its status returned. Or the sink had a fault and holds a prefix of the text, and the status is 7.
-abbrev pub Finished : Type 0 → Type 0 → Option (List ℕ) → Option (List ℕ) → List ℕ → ℕ → ℕ → Type 0
-Finished rose same old new text status result = ((result ≡ status) × Appends old new text × same) ⊎ ((result ≡ 7) × rose × AppendsPrefix old new text)
+abbrev pub Finished : (old new : Writing) → List ℕ → ℕ → ℕ → Type 0
+Finished old new text status result =
+    ((result ≡ status) × Appends old.held new.held text × (new.faults ≡ old.faults))
+    ⊎ ((result ≡ 7) × Rose old.faults new.faults × AppendsPrefix old.held new.held text)
 
 -- an answer that the call may give, or that is its refusal
 abbrev pub MayAnswer : Ways Answer → Answer → Type 0
@@ -45,26 +49,25 @@ pub record IsCutShort (w : Ways Answer) (old new : Option (List ℕ)) : Type 0 w
   pub put : AppendsPrefix old new (text_of outcome)
 
 -- An outcome that the call may have was put, or the front of it before a fault of the sink. At most one put was made for each byte of its text.
-pub record IsPutBriefly (w : Ways Answer) (rose same : Type 0) (old new : Option (List ℕ)) (before after status : ℕ) : Type 0 where
+pub record IsPutBriefly (w : Ways Answer) (old new : Writing) (status : ℕ) : Type 0 where
   pub outcome : Result Answer Stop
   pub ends : EndsIn w outcome
-  pub finished : Finished rose same old new (text_of outcome) (status_of outcome) status
-  pub puts : after ≤ before + length (text_of outcome)
+  pub finished : Finished old new (text_of outcome) (status_of outcome) status
+  pub puts : new.calls ≤ old.calls + length (text_of outcome)
 
--- What a top call does, by its status. `w` has the ways in which the call may end. `rose` says that the sink had a fault in this call, and `same`
--- that its count of faults stayed. `old` and `new` are what the sink held and holds, if it says that, and `before` and `after` how many puts were
--- made by then.
-pub record Runs (w : Ways Answer) (rose same : Type 0) (old new : Option (List ℕ)) (before after : ℕ) (status : ℕ) : Type 0 where
-  pub done : status ≤ 5 → IsAnswered w old new status
-  pub read : status ≡ 6 → w.read × Appends old new read_fault
-  pub write : status ≡ 7 → rose
-  pub partial : status ≡ 7 → IsCutShort w old new
-  pub memory : status ≡ 8 → w.memory × Appends old new no_memory
-  pub keeper : status ≡ 9 → w.keeper × Appends old new keeper_fault
-  pub faultless : ¬ (status ≡ 7) → same
-  pub complete : ¬ w.read → ¬ w.keeper → ¬ rose → (status ≤ 5) ⊎ (status ≡ 8)
+-- What a top call does, by its status. `w` has the ways in which the call may end, and `old` and `new` are what the sink was and is. It had a fault in
+-- this call if its count of faults rose.
+pub record Runs (w : Ways Answer) (old new : Writing) (status : ℕ) : Type 0 where
+  pub done : status ≤ 5 → IsAnswered w old.held new.held status
+  pub read : status ≡ 6 → w.read × Appends old.held new.held read_fault
+  pub write : status ≡ 7 → Rose old.faults new.faults
+  pub partial : status ≡ 7 → IsCutShort w old.held new.held
+  pub memory : status ≡ 8 → w.memory × Appends old.held new.held no_memory
+  pub keeper : status ≡ 9 → w.keeper × Appends old.held new.held keeper_fault
+  pub faultless : ¬ (status ≡ 7) → new.faults ≡ old.faults
+  pub complete : ¬ w.read → ¬ w.keeper → ¬ Rose old.faults new.faults → (status ≤ 5) ⊎ (status ≡ 8)
   pub known : status ≤ 9
-  pub brief : IsPutBriefly w rose same old new before after status
+  pub brief : IsPutBriefly w old new status
 
 -- What a top call does to a source. If it doesn't read it, it leaves it as it was. With status 0 it has read it to its end.
 pub record Uses {S : Type 0} (left : S → Option (List ℕ)) (Reads : Type 0) (old new : S) (status : ℕ) : Type 0 where

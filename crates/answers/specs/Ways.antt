@@ -1,5 +1,7 @@
 -- The ways in which a call may end.
-use Rattle.std.specs.Prelude.{Result, Ok, Err}
+use Rattle.std.specs.Prelude.{◌≡◌, Result, Ok, Err}
+use Rattle.graph_io.specs.Causes.{Rose}
+use Rattle.answers.specs.Devices.{Reading}
 use Rattle.answers.specs.Stages.{Stage}
 use Rattle.answers.specs.declared.refusal.Refusal.{Refusal}
 use Rattle.answers.specs.declared.stop.Stop.{Stop}
@@ -46,3 +48,7 @@ over_source s rose clean = record {
   keeper = ⊥;
   memory = clean;
 }
+
+-- The ways of a stage over one source, by what it was and is.
+abbrev pub over_reading : {A : Type 0} → Stage Refusal A → (old new : Reading) → Ways A
+over_reading s old new = over_source s (Rose old.faults new.faults) (new.faults ≡ old.faults)

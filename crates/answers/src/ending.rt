@@ -1,6 +1,6 @@
 //! Putting what a call answers.
-ghost use Rattle.std.specs.Prelude.{◌≡◌, ◌≤◌, ◌+◌, length};
-ghost use Rattle.graph_io.specs.Causes.{Rose};
+ghost use Rattle.std.specs.Prelude.{◌≤◌, ◌+◌, length};
+ghost use Rattle.answers.specs.Devices.{writing};
 ghost use Rattle.answers.specs.Runs.{Finished, text_of, status_of};
 
 use crate::answer::Answer;
@@ -9,9 +9,7 @@ use graph_io::{Sink, write_all};
 
 /// Puts a text, and returns its status, or 7 if putting failed.
 fn finish<W: Sink>(out: &mut W, text: &[u8], status: u8) -> u8
-    ensures finished { Finished (Rose (W.faults out.old) (W.faults out.new))
-        (W.faults out.new ≡ W.faults out.old)
-        (W.held out.old) (W.held out.new) text.now status result }
+    ensures finished { Finished (writing W.Sink out.old) (writing W.Sink out.new) text.now status result }
     ensures turns { W.calls out.new ≤ W.calls out.old + length text.now }
 {
     match write_all(out, text) {
@@ -25,9 +23,8 @@ fn finish<W: Sink>(out: &mut W, text: &[u8], status: u8) -> u8
 /// The status is that of the answer or of the refusal; 6 if a source had a fault, 8 out of memory, 9 if the keeper had a fault.
 /// It is 7 if putting failed.
 pub fn conclude<W: Sink>(out: &mut W, outcome: &Result<Answer, Stop>) -> u8
-    ensures finished { Finished (Rose (W.faults out.old) (W.faults out.new))
-        (W.faults out.new ≡ W.faults out.old)
-        (W.held out.old) (W.held out.new) (text_of outcome.now) (status_of outcome.now) result }
+    ensures finished { Finished (writing W.Sink out.old) (writing W.Sink out.new)
+        (text_of outcome.now) (status_of outcome.now) result }
     ensures turns { W.calls out.new ≤ W.calls out.old + length (text_of outcome.now) }
 {
     match outcome {
