@@ -4,5 +4,6 @@ pub mod Given
 pub mod Graphs
 pub mod Levels
 pub mod Table
+pub mod WordBytes
 pub mod WordParts
 pub mod Words

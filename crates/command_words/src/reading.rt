@@ -1,11 +1,12 @@
 //! Reading the words from left to right.
-ghost use Rattle.std.specs.Prelude.{◌≡◌, ◌<◌, ◌+◌, ◌^◌, map, length, string_bytes, codes};
+ghost use Rattle.std.specs.Prelude.{◌≡◌, ◌<◌, ◌+◌, ◌^◌, length, codes};
 ghost use Rattle.std.specs.Str.{bytes_eq};
 ghost use Rattle.std.specs.Option.{option_map};
 ghost use Rattle.field_core.specs.Answers.{mapped};
 ghost use Rattle.command_words.specs.Asked.{asked, study_asked};
 ghost use Rattle.command_words.specs.Given.{given_content, not_given};
 ghost use Rattle.command_words.specs.Table.{argument_of};
+ghost use Rattle.command_words.specs.WordBytes.{words_in};
 ghost use Rattle.command_words.specs.Words.{asks_study, pieces_in, asked_in, study_in};
 
 use crate::argument::Argument;
@@ -34,7 +35,7 @@ fn pieces<'a>(
     words: &'a [String],
 ) -> Result<Given<'a>, usize>
     requires { at + length words.now < 2 ^ 63 }
-    ensures { mapped given_content result ≡ pieces_in verb at (given_content given.now) (map string_bytes words.now) }
+    ensures { mapped given_content result ≡ pieces_in verb at (given_content given.now) (words_in words.now) }
 {
     let Some((word, more)) = words.split_first() else {
         return Ok(given.copied());
@@ -67,7 +68,7 @@ fn is_study(word: &str) -> bool
 
 /// Whether the first word is `study`. Then the words go to its top call.
 pub fn asks_study(words: &[String]) -> bool
-    ensures { result ≡ asks_study (map string_bytes words.now) }
+    ensures { result ≡ asks_study (words_in words.now) }
 {
     match words {
         [first, ..] => is_study(first.as_str()),
@@ -77,7 +78,7 @@ pub fn asks_study(words: &[String]) -> bool
 
 /// Returns what the words ask a study for; or the number, from 1, of the first word at which the reading fails.
 pub fn read_study(words: &[String]) -> Result<StudyCall<'_>, usize>
-    ensures { mapped study_asked result ≡ study_in (map string_bytes words.now) }
+    ensures { mapped study_asked result ≡ study_in (words_in words.now) }
 {
     let Some((first, more)) = words.split_first() else {
         return Err(1);
@@ -96,7 +97,7 @@ pub fn read_study(words: &[String]) -> Result<StudyCall<'_>, usize>
 
 /// Returns what the words ask for, but of a study; or the number, from 1, of the first word at which the reading fails.
 pub fn read_words(words: &[String]) -> Result<Command, usize>
-    ensures { mapped asked result ≡ asked_in (map string_bytes words.now) }
+    ensures { mapped asked result ≡ asked_in (words_in words.now) }
 {
     let Some((first, more)) = words.split_first() else {
         return Err(1);
