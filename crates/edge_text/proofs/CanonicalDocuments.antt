@@ -36,7 +36,8 @@ use Rattle.edge_text.proofs.CanonicalDrafts.{edges_from, untabled, p_of, stages_
 use Rattle.edge_text.proofs.CanonicalWords.{IsSaid, zip_map, number_is_word, numbers_are_words, whole_is, whole_is_word}
 use Rattle.edge_text.proofs.CanonicalLines.{each_holds, keyed, line_says, line_apart, all_append, all_flat, texts_spelt, AreDistinct, IsEntry, edges_lines, edges_said}
 use Rattle.edge_text.proofs.CanonicalStages.{IsSpendSaid, IsArrivalSaid, spends_lines_are, spends_said, arrive_lines_are, arrivals_said, arrivals_other}
-use Rattle.edge_text.proofs.FormSpells.{lines_of, Other, Spells, spells_say, spells_line, spells_then, spells_last, spells_may, spells_other, spells_stop, spells_more, spells_lines, spelt_document}
+use Rattle.text_lines.proofs.Written.{lines_in}
+use Rattle.edge_text.proofs.FormSpells.{Other, Spells, spells_say, spells_line, spells_then, spells_last, spells_may, spells_other, spells_stop, spells_more, spells_lines, spelt_document}
 use Rattle.edge_text.proofs.Leaves.{number_said, numbers_said, given_said, count_said}
 
 -- what stages of `m` hypotheses need so that they are read back
@@ -241,7 +242,7 @@ late_are names w a (Staged s) h = stages_are names w a s h
 no_stages_said : (names : List (List ℕ)) → Spells (stages names) [] None []
 no_stages_said names = spells_other (behind (codes "stages") count) _ (Say None) [] None [] tt (spells_say None [])
 
-seen_texts : (rows : List Row) → lines_of (texts_seen rows) ≡ texts_in rows
+seen_texts : (rows : List Row) → lines_in (texts_seen rows) ≡ texts_in rows
 seen_texts [] = refl
 seen_texts (row ∷ rows) = ap (λ (ls : List (List ℕ)). row.text ∷ ls) (seen_texts rows)
 

@@ -26,15 +26,12 @@ use Rattle.edge_text.specs.declared.fault.LineKind.{LineKind}
 use Rattle.edge_text.specs.Document.{edge_line}
 use Rattle.edge_text.specs.Grammar.{Words}
 use Rattle.edge_text.specs.WordReading.{edge}
-use Rattle.edge_text.proofs.Leaves.{edge_said as edge_words_said}
+use Rattle.edge_text.proofs.Leaves.{same_name, edge_said as edge_words_said}
 use Rattle.edge_text.specs.CanonicalText.{name_at, edge_words, is_absent, edge_lines, table_lines}
 use Rattle.edge_text.proofs.CanonicalDrafts.{edge_at, before, edges_from}
 use Rattle.edge_text.proofs.CanonicalWords.{is_high, high_word, entry_is_word, blank_entry}
 
 -- ---- lines by their words
-
-same_name : (name : List ℕ) → bytes_eq name name ≡ true
-same_name name = (bytes_eq-Decides name name).1 refl
 
 -- a line that begins with a keyword
 pub keyed : (b : ℕ) (bs : List ℕ) (words : Words) → (b == 35) ≡ false → list_all is_high (b ∷ bs) ≡ true → AllByRecursion IsWord words

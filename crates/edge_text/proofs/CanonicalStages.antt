@@ -16,7 +16,7 @@ use Rattle.text_lines.specs.Kinds.{behind, more_lines, each_after}
 use Rattle.text_lines.specs.Spelling.{line_spelt, IsWord, IsLine}
 use Rattle.text_lines.specs.Words.{words_behind}
 use Rattle.text_lines.proofs.Spelt.{words_of_line}
-use Rattle.edge_text.specs.Document.{Lines, if_named, if_step, further_line, spend}
+use Rattle.edge_text.specs.Document.{if_named, if_step, further_line, table, spend}
 use Rattle.edge_text.specs.Grammar.{Words}
 use Rattle.edge_text.specs.CanonicalText.{number_word, name_at, spend_words, table_words, arrive_words, spend_lines, spends_lines}
 use Rattle.edge_text.specs.WordReading.{shares, first_step, step_of, step_words, arrival}
@@ -66,9 +66,6 @@ steps_said name (t ∷ ts) h s =
           ∙ further_words name (name ∷ number_word t.from ∷ map number_word t.levels) t (step_said name t w.0 w.1 w.2),
       steps_said name ts h (λ i x e. s (suc i) x e),
     )
-
-abbrev table : List ℕ → Lines Spend
-table name = Then (Line (behind (codes "table") (first_step name))) (λ step. Then (more_lines (further_line name) (step ∷ [])) (λ steps. Say (Table steps)))
 
 -- the lines of a spend, before a line that is not a step of its table
 spend_said : (name : List ℕ) (x : Spend) (after : List (List ℕ)) → IsWord name → IsSpendSaid x → Other (further_line name) after

@@ -25,7 +25,7 @@ use Rattle.edge_text.proofs.NameWords.{IsNameWord, words_are, word_first, zero_l
 use Rattle.text_lines.specs.Forms.{Leaf, Say, Then, Many, Seen, Lacks}
 use Rattle.text_lines.specs.Kinds.{behind, more_lines, each_after}
 use Rattle.text_lines.proofs.FormEnds.{Whole, Leads, Can, can_say, can_then, can_may, can_many}
-use Rattle.edge_text.specs.Document.{Lines, edge_line, if_step, further_line, block, blocks, spend, stages, after_p, document, kinds}
+use Rattle.edge_text.specs.Document.{Lines, edge_line, if_step, further_line, share_line, block, blocks, spend, stages, after_p, document, kinds}
 use Rattle.text_lines.proofs.EndRules.{Example, can_line_then, can_more, can_either}
 
 abbrev Rows : Type 0
@@ -128,9 +128,6 @@ module _ (names : Words) where
       can_then kinds (more_lines (edge_line names) []) (λ edges. Say (record { share = share; weights = weights; edges = edges })) C
       (can_more kinds (edge_line names) _ (λ es. ([], ((record { share = share; weights = weights; edges = es }, [], (refl, refl), h _), tt))) [])
       (λ edges. can_say kinds (record { share = share; weights = weights; edges = edges }) C ([], h _)))
-
-  abbrev share_line : List ℕ → Option (Result Ratio LineKind)
-  share_line = behind (codes "component") number
 
   abbrev further_blocks : List DraftComponent → Lines (List DraftComponent)
   further_blocks ks = Many share_line (λ ks share. block names share) ks

@@ -26,7 +26,7 @@ use Rattle.edge_text.specs.WordReading.{behind as on_keyword, on_words, found_or
 use Rattle.edge_text.proofs.LinesTaken.{left_of, all_left, first_left, none_left, push_left}
 use Rattle.text_lines.specs.Forms.{Say, Line, Then, May, Many, Seen, texts_seen, all_read, reading}
 use Rattle.text_lines.specs.Kinds.{behind, more_lines, each_after}
-use Rattle.edge_text.specs.Document.{Lines, edge_line, if_named, if_step, further_line, block, spend, stages, document, kinds}
+use Rattle.edge_text.specs.Document.{Lines, edge_line, if_named, if_step, further_line, share_line, block, table, spend, stages, document, kinds}
 use Rattle.edge_text.proofs.FormRuns.{picked, picked_same, on_said, run, run_same, run_say, run_then, run_line, run_may, run_many, run_lines}
 
 abbrev Rows : Type 0
@@ -68,9 +68,6 @@ module _ (end : ℕ) where
   abbrev tail : Draft → List DraftComponent → Rows → Answer
   tail d ks rows = run kinds (stages d.names) rows end (λ s rest. last d ks s rest)
 
-  abbrev share_line : List ℕ → Option (Result Ratio LineKind)
-  share_line = behind (codes "component") number
-
   -- further blocks, if blocks have shares
   abbrev behind_block : Bool → Draft → List DraftComponent → Rows → Answer
   behind_block true d ks rows = run kinds (Many share_line (λ xs share. block d.names share) ks) rows end (tail d)
@@ -101,9 +98,6 @@ module _ (end : ℕ) where
   steps_on d s [] steps rows = spends_on d s [] (s.spend ++ Table steps ∷ []) rows
   steps_on d s (name ∷ names) steps rows =
       run kinds (more_lines (further_line name) steps) rows end (λ steps rest. spends_on d s names (s.spend ++ Table steps ∷ []) rest)
-
-  abbrev table : List ℕ → Lines Spend
-  table name = Then (Line (behind (codes "table") (first_step name))) (λ step. Then (more_lines (further_line name) (step ∷ [])) (λ steps. Say (Table steps)))
 
   abbrev left : Draft → DraftStages → List (List ℕ)
   left d s = left_of d.names (length s.spend)

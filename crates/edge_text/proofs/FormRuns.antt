@@ -93,7 +93,9 @@ module _ {L K : Type 0} (U : Kinds K) where
       ≡ picked row.number (l row.line) (λ a. run (body xs a) rows end (λ x rest. run (Many l body (xs ++ x ∷ [])) rest end k)) (k xs (row ∷ rows))
   run_many {A} {B} l body xs row rows end k = by (l row.line)
     where
-      by : (o : Option (Result A K)) → and_then {A = List B × List (Seen L)} (took_on (may_take o (λ a. Then (body xs a) (λ x. Many l body (xs ++ x ∷ []))) (next U (Say xs) row.line)) row rows (λ g. read U g rows end)) (λ p. k p.0 p.1)
+      by : (o : Option (Result A K)) → and_then {A = List B × List (Seen L)}
+          (took_on (may_take o (λ a. Then (body xs a) (λ x. Many l body (xs ++ x ∷ []))) (next U (Say xs) row.line)) row rows (λ g. read U g rows end))
+          (λ p. k p.0 p.1)
           ≡ picked row.number o (λ a. run (body xs a) rows end (λ x rest. run (Many l body (xs ++ x ∷ [])) rest end k)) (k xs (row ∷ rows))
       by (Some (Ok a)) = run_then (body xs a) (λ x. Many l body (xs ++ x ∷ [])) rows end k
       by (Some (Err kind)) = refl

@@ -1,13 +1,10 @@
 -- Lines that are written for what a form says: they are read as that, whatever their numbers.
-use Rattle.std.proofs.Common.{◌≡◌, inl, inr, List, [], ◌∷◌, ◌++◌, map, Some, None, Ok, refl, sym, ap, subst, ◌∙◌, append_assoc}
+use Rattle.std.proofs.Common.{◌≡◌, inl, inr, List, [], ◌∷◌, ◌++◌, Some, None, Ok, refl, sym, ap, subst, ◌∙◌, append_assoc}
 use Rattle.std.specs.List.{AllZip}
 use Rattle.std.proofs.lemmas.List.{append-nil}
 use Rattle.text_lines.specs.Forms.{Form, Leaf, Say, Line, Then, May, Many, Seen, Begins, Lacks, Is, IsDocument}
 use Rattle.text_lines.specs.Kinds.{more_lines}
-
--- the lines without their numbers
-abbrev pub lines_of : {L : Type 0} → List (Seen L) → List L
-lines_of rows = map (λ row. row.line) rows
+use Rattle.text_lines.proofs.Written.{lines_in}
 
 -- the first line, if there is one, is of another kind
 abbrev pub Other : {L K A : Type 0} → Leaf L K A → List L → Type 0
@@ -17,30 +14,30 @@ Other l (line ∷ lines) = l line ≡ None
 -- rows begin with what a form says, and these lines follow
 pub record Front {L K A : Type 0} (f : Form L K A) (rows : List (Seen L)) (a : A) (after : List L) : Type 0 where
   pub rest : List (Seen L)
-  pub rest_are : lines_of rest ≡ after
+  pub rest_are : lines_in rest ≡ after
   pub is : Is f rows a rest
 
 -- these lines say this, before those
 abbrev pub Spells : {L K A : Type 0} → Form L K A → List L → A → List L → Type 0
-Spells {L} f lines a after = (rows : List (Seen L)) → lines_of rows ≡ lines ++ after → Front f rows a after
+Spells {L} f lines a after = (rows : List (Seen L)) → lines_in rows ≡ lines ++ after → Front f rows a after
 
 module _ {L K : Type 0} where
-  lacks : {A : Type 0} (l : Leaf L K A) (rows : List (Seen L)) (lines : List L) → lines_of rows ≡ lines → Other l lines → Lacks l rows
+  lacks : {A : Type 0} (l : Leaf L K A) (rows : List (Seen L)) (lines : List L) → lines_in rows ≡ lines → Other l lines → Lacks l rows
   lacks l [] lines e h = tt
   lacks l (row ∷ rows) lines e h = subst (Other l) (sym e) h
 
   -- the first of these lines
   record Starts {A : Type 0} (l : Leaf L K A) (rows : List (Seen L)) (a : A) (more : List L) : Type 0 where
     rest : List (Seen L)
-    rest_are : lines_of rest ≡ more
+    rest_are : lines_in rest ≡ more
     begins : Begins l rows a rest
 
-  starts : {A : Type 0} (l : Leaf L K A) (rows : List (Seen L)) (line : L) (more : List L) (a : A) → lines_of rows ≡ line ∷ more → l line ≡ Some (Ok a)
+  starts : {A : Type 0} (l : Leaf L K A) (rows : List (Seen L)) (line : L) (more : List L) (a : A) → lines_in rows ≡ line ∷ more → l line ≡ Some (Ok a)
       → Starts l rows a more
   starts l [] line more a e s = absurd (cc)
   starts l (row ∷ rows) line more a e s =
       let first : row.line ≡ line = cc in
-      let others : lines_of rows ≡ more = cc in
+      let others : lines_in rows ≡ more = cc in
       record { rest = rows; rest_are = others; begins = record { row = row; rows_are = refl; says = ap l first ∙ s } }
 
   -- ---- a rule for each way to put forms together
@@ -107,10 +104,10 @@ module _ {L K : Type 0} where
       (spells_lines l (before ++ x ∷ []) lines xs after z.1 n))
 
   -- all lines of a document
-  pub spelt_document : {A : Type 0} (f : Form L K A) (lines : List L) (a : A) (rows : List (Seen L)) → Spells f lines a [] → lines_of rows ≡ lines
+  pub spelt_document : {A : Type 0} (f : Form L K A) (lines : List L) (a : A) (rows : List (Seen L)) → Spells f lines a [] → lines_in rows ≡ lines
       → IsDocument f rows a
   spelt_document f lines a rows h e = let s = h rows (e ∙ sym (append-nil lines)) in subst (λ rest. Is f rows a rest) (none s.rest s.rest_are) s.is
     where
-      none : (rest : List (Seen L)) → lines_of rest ≡ [] → rest ≡ []
+      none : (rest : List (Seen L)) → lines_in rest ≡ [] → rest ≡ []
       none [] k = refl
       none (row ∷ rest) k = absurd (cc)

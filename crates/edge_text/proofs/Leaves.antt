@@ -127,8 +127,8 @@ count_is words n e =
     let f = found_of (only_word words) WordCount whole n e in
     record { word = f.0; alone = one_word words f.0 f.1; is = whole_says f.0 n f.2 }
 
-itself : (name : List ℕ) → bytes_eq name name ≡ true
-itself name = (bytes_eq-Decides name name).1 refl
+pub same_name : (name : List ℕ) → bytes_eq name name ≡ true
+same_name name = (bytes_eq-Decides name name).1 refl
 
 pub shares_said : (name : List ℕ) (words : Words) (xs : List Ratio) → AreShares name words xs → shares name words ≡ Ok xs
 shares_said name words xs h = ap (shares name) h.words_are ∙ by h.numerals xs h.each h.some
@@ -136,7 +136,7 @@ shares_said name words xs h = ap (shares name) h.words_are ∙ by h.numerals xs 
     by : (ws : Words) (ys : List Ratio) → AreNumbers ws ys → 0 < length ys → shares name (name ∷ ws) ≡ Ok ys
     by [] [] a few = absurd (let q : 0 < length {A = Ratio} [] = few in omega arith)
     by [] (y ∷ ys) a few = absurd a
-    by (w ∷ ws) ys a few = ap (λ b. if b then numbers (w ∷ ws) else Err Unexpected) (itself name) ∙ numbers_said (w ∷ ws) ys a
+    by (w ∷ ws) ys a few = ap (λ b. if b then numbers (w ∷ ws) else Err Unexpected) (same_name name) ∙ numbers_said (w ∷ ws) ys a
 
 pub shares_are : (name : List ℕ) (words : Words) (xs : List Ratio) → shares name words ≡ Ok xs → AreShares name words xs
 shares_are name [] xs e = absurd (let q : Err WordCount ≡ Ok xs = e in cc)
@@ -160,7 +160,7 @@ first_said name words t h = ap (first_step name) h.words_are ∙ by h.numerals t
     by (w ∷ v ∷ ws) ys a few =
         let n = numeral_said w t.from a.0 in
         let m = numbers_said (v ∷ ws) ys a.1 in
-        ap (λ b. if b then step_of w (v ∷ ws) else Err Unexpected) (itself name)
+        ap (λ b. if b then step_of w (v ∷ ws) else Err Unexpected) (same_name name)
         ∙ ap (λ r. and_then r (λ x. and_then (numbers (v ∷ ws)) (λ xs. Ok (record { from = x; levels = xs })))) n
         ∙ ap (λ r. and_then r (λ xs. Ok (record { from = t.from; levels = xs }))) m
 

@@ -1,67 +1,11 @@
 -- Lines by their first word, both ways.
-use Rattle.std.proofs.Common.{◌≡◌, ℕ, ◌⊎◌, inl, inr, Bool, true, false, List, [], ◌∷◌, ◌++◌, length, suc, zero, Option, Some, None, Result, Ok, Err, refl, sym, ap, ◌∙◌, if◌then◌else◌, slice_get}
+use Rattle.std.proofs.Common.{◌≡◌, ℕ, Bool, true, false, List, [], ◌∷◌, ◌++◌, length, suc, zero, Option, Some, None, Ok, Err, refl, ap, ◌∙◌, if◌then◌else◌, slice_get}
 use Rattle.std.specs.Str.{bytes_eq}
-use Rattle.std.proofs.lemmas.Slice.Eq.{bytes_eq-Decides}
-use Rattle.text_lines.specs.Words.{words_of, words_behind}
-use Rattle.text_lines.proofs.Keywords.{keyword_found, keyword_missing}
 use Rattle.case_model.specs.declared.spend_step.SpendStep.{SpendStep}
 use Rattle.edge_text.specs.declared.fault.LineKind.TheVariants.{Unexpected, WordCount}
 use Rattle.edge_text.specs.Document.{if_named}
-use Rattle.edge_text.specs.Grammar.{Words, IsLineOf}
-use Rattle.field_core.specs.Answers.{and_then}
-use Rattle.edge_text.specs.WordReading.{on_words, behind, found_or, step_words, step_of, first_step}
-use Rattle.field_core.proofs.Results.{came_from, same_value}
-
-abbrev pub Lines : Type 0
-Lines = List (List ℕ)
-
--- a line with this first word
-pub here : {Next Kind : Type 0} (keyword line : List ℕ) (words : Words) (f : Words → Result Next Kind) (other : Result Next Kind)
-    → words_of line ≡ keyword ∷ words → behind keyword line f other ≡ f words
-here keyword line words f other e =
-    let same : bytes_eq keyword keyword ≡ true = (bytes_eq-Decides keyword keyword).1 refl in
-    ap (λ ws. on_words (words_behind keyword ws) f other) e ∙ rw same refl
-
--- a line with another one
-pub past : {Next Kind : Type 0} (keyword word line : List ℕ) (words : Words) (f : Words → Result Next Kind) (other : Result Next Kind)
-    → words_of line ≡ word ∷ words → bytes_eq word keyword ≡ false → behind keyword line f other ≡ other
-past keyword word line words f other e n = ap (λ ws. on_words (words_behind keyword ws) f other) e ∙ rw n refl
-
--- a line with this first word that says something
-pub said : {A Next Kind : Type 0} {Are : Words → A → Type 0} (keyword : List ℕ) (read : Words → Result A Kind)
-    (leaf : (words : Words) (x : A) → Are words x → read words ≡ Ok x) (line : List ℕ) (x : A) (to : A → Next) (other : Result Next Kind)
-    → IsLineOf keyword line (λ words. Are words x) → behind keyword line (λ words. and_then (read words) (λ y. Ok (to y))) other ≡ Ok (to x)
-said keyword read leaf line x to other h =
-    here keyword line h.behind _ other h.words ∙ ap (λ r. and_then r (λ y. Ok (to y))) (leaf h.behind x h.are)
-
--- the line doesn't begin with the keyword
-abbrev pub Lacks : List ℕ → List ℕ → Type 0
-Lacks keyword line = (rest : Words) → ¬ (words_of line ≡ keyword ∷ rest)
-
--- the line has the keyword, or the other line is taken
-pub taken : {Next Kind : Type 0} (keyword line : List ℕ) (f : Words → Result Next Kind) (other : Result Next Kind) (next : Next)
-    → behind keyword line f other ≡ Ok next
-    → ((words : Words) × (words_of line ≡ keyword ∷ words) × (f words ≡ Ok next)) ⊎ (Lacks keyword line × (other ≡ Ok next))
-taken keyword line f other next e = by (words_behind keyword (words_of line)) refl e
-  where
-    by : (o : Option Words) → o ≡ words_behind keyword (words_of line) → on_words o f other ≡ Ok next
-        → ((words : Words) × (words_of line ≡ keyword ∷ words) × (f words ≡ Ok next)) ⊎ (Lacks keyword line × (other ≡ Ok next))
-    by (Some words) h k = inl (words, keyword_found keyword (words_of line) words h, k)
-    by None h k = inr (keyword_missing keyword (words_of line) h, k)
-
--- the line says something, or the other line is taken
-pub reads : {A Next Kind : Type 0} {Are : Words → A → Type 0} (keyword : List ℕ) (read : Words → Result A Kind)
-    (leaf : (words : Words) (x : A) → read words ≡ Ok x → Are words x) (line : List ℕ) (to : A → Next) (other : Result Next Kind) (next : Next)
-    → behind keyword line (λ words. and_then (read words) (λ y. Ok (to y))) other ≡ Ok next
-    → ((x : A) × IsLineOf keyword line (λ words. Are words x) × (next ≡ to x)) ⊎ (other ≡ Ok next)
-reads keyword read leaf line to other next e = elim (taken keyword line _ other next e) [
-  | inl t ↦ let v = came_from (read t.0) (λ y. Ok (to y)) next t.2 in
-      inl (v.0, record { behind = t.0; words = t.1; are = leaf t.0 v.0 v.1 }, sym (same_value (to v.0) next v.2))
-  | inr o ↦ inr o.1
-]
-
-pub none : {A Next : Type 0} (next : Next) → Err Unexpected ≡ Ok next → A
-none next e = absurd (cc)
+use Rattle.edge_text.specs.Grammar.{Words}
+use Rattle.edge_text.specs.WordReading.{found_or, step_words, step_of, first_step}
 
 -- the words of a step of this name
 pub record StepSaid (name : List ℕ) (words : Words) (t : SpendStep) : Type 0 where

@@ -42,6 +42,10 @@ if_step name None = None
 abbrev pub further_line : List ℕ → Leaf (List ℕ) LineKind SpendStep
 further_line name line = if_step name (words_behind (codes "table") (words_of line))
 
+-- `component`, with the share of the component that follows
+abbrev pub share_line : Leaf (List ℕ) LineKind Ratio
+share_line = behind (codes "component") number
+
 -- ---- documents
 
 -- a component of this share: its weights, and then its edges
@@ -54,16 +58,19 @@ block names share =
 -- One block or more, each after its share; or else one block, of share 1.
 abbrev pub blocks : Words → Lines (List DraftComponent)
 blocks names =
-    May (behind (codes "component") number) (λ share.
-    Then (block names share) (λ k. Many (behind (codes "component") number) (λ ks share. block names share) (k ∷ [])))
+    May share_line (λ share.
+    Then (block names share) (λ k. Many share_line (λ ks share. block names share) (k ∷ [])))
     (Then (block names one) (λ k. Say (k ∷ [])))
 
--- What the hypothesis of this name spends: a line of shares, or all lines of its table that follow one another.
+-- all lines of the table of this name that follow one another
+abbrev pub table : List ℕ → Lines Spend
+table name =
+    Then (Line (behind (codes "table") (first_step name))) (λ step.
+    Then (more_lines (further_line name) (step ∷ [])) (λ steps. Say (Table steps)))
+
+-- What the hypothesis of this name spends: a line of shares, or its table.
 abbrev pub spend : List ℕ → Lines Spend
-spend name =
-    May (behind (codes "spend") (shares name)) (λ xs. Say (Shares xs))
-    (Then (Line (behind (codes "table") (first_step name))) (λ step.
-    Then (more_lines (further_line name) (step ∷ [])) (λ steps. Say (Table steps))))
+spend name = May (behind (codes "spend") (shares name)) (λ xs. Say (Shares xs)) (table name)
 
 -- The stages, if there are some: their number, what each hypothesis spends, in the order of the names, and the p-values that arrived.
 abbrev pub stages : Words → Lines (Option DraftStages)
