@@ -42,10 +42,6 @@ unfolding leading
 leading_none a x xs f = ap (λ b. cond b (x.hypothesis ∷ leading a xs) []) f
 
 module _ (E : EntangledGraph) (p : ℕ → Number) where
-  -- a value isn't below the one before
-  rises : (I : ℕ → Bool) (before : Number) (x : ValueStep) → IsValueStep E p I before x → before ≤ε number_of x.value
-  rises I before x S = S.greater.above_first
-
   -- values are at most 1
   small : (I : ℕ → Bool) (before : Number) (x : ValueStep) → IsValueStep E p I before x → before ≤ε number_one → number_of x.value ≤ε number_one
   small I before x S h = elim S.greater.one_of [

@@ -26,9 +26,6 @@ pub unmade : {A B : Type 0} (f : A → B) (r : Result A RowFault) (e : CsvFault)
 unmade f (Ok a) e h = absurd (cc h)
 unmade f (Err g) e h = ap Err (same_fault _ e h)
 
-pub mapped_on : {A B : Type 0} (f : A → B) (r : Result A RowFault) (e : CsvFault) → told r ≡ Err e → told (mapped f r) ≡ Err e
-mapped_on f r e h = handed r (λ a. Ok (f a)) e h
-
 pub passed : {A B : Type 0} (e : CsvFault) (r : Result A RowFault) (next : A → Result B RowFault) → (e ≡ faults.NoMemory) ⊎ (told r ≡ Err e)
     → (e ≡ faults.NoMemory) ⊎ (told (and_then r next) ≡ Err e)
 passed e r next (inl memory) = inl memory

@@ -1,7 +1,7 @@
 -- The edges of a row, one by one.
-use Rattle.std.proofs.Common.{◌≡◌, ◌<◌, ◌≤◌, ◌+◌, ◌∙◌, ℕ, Bool, true, false, List, [], ◌∷◌, ◌++◌, refl, sym, ap}
+use Rattle.std.proofs.Common.{◌≡◌, ◌<◌, ◌+◌, ◌∙◌, ℕ, Bool, true, false, List, [], ◌∷◌, ◌++◌, refl, sym, ap}
 use Rattle.std.proofs.Common.{drop, get_or, length, arith, append_assoc, Result, Ok, Err}
-use Rattle.std.proofs.lemmas.List.{append-nil, drop_more, drop_all}
+use Rattle.std.proofs.lemmas.List.{drop_more}
 use lib.Seq.{get_or-drop}
 use Rattle.field_core.specs.declared.ratio.Ratio.{Ratio}
 use Rattle.case_model.specs.declared.draft_edge.DraftEdge.{DraftEdge}
@@ -17,10 +17,6 @@ get_behind cells i = ap (λ n. get_or cells n []) (third i) ∙ sym (get_or-drop
   where
     third : (i : ℕ) → i + 3 ≡ 3 + i
     third i = omega arith
-
-pub kept_none : (keep : Bool) → kept keep [] ≡ []
-kept_none true = refl
-kept_none false = refl
 
 pub kept_append : (keep : Bool) (es fs : List DraftEdge) → kept keep (es ++ fs) ≡ kept keep es ++ kept keep fs
 kept_append true es fs = refl
@@ -56,14 +52,3 @@ module _ (keep : Bool) (from number : ℕ) (cells : Cells) where
       → new ≡ edges ++ kept keep (edge_at from to entry) → with_rest edges to ≡ with_rest new (to + 1)
   one_more edges new to entry small is put = one_of_rest edges to (Ok entry) small is ∙ later edges to entry (entries_of number (to + 1 + 4) (drop (to + 1) cells))
       ∙ ap (λ es. with_rest es (to + 1)) (sym put)
-
-  -- a cell is refused
-  pub one_bad : (edges : List DraftEdge) (to : ℕ) (kind : RowKind) → to < length cells → edge_of (get_or cells to []) ≡ Err kind
-      → with_rest edges to ≡ Err (record { row = number; column = to + 4; kind = kind })
-  one_bad edges to kind small is = one_of_rest edges to (Err kind) small is
-
-  -- all are taken
-  pub all_taken : (edges : List DraftEdge) (to : ℕ) → length cells ≤ to → with_rest edges to ≡ Ok edges
-  all_taken edges to end =
-      ap (λ cs. mapped (λ entries. edges ++ kept keep (row_edges from to entries)) (entries_of number (to + 4) cs)) (drop_all to cells end)
-      ∙ ap Ok (ap (λ es. edges ++ es) (kept_none keep) ∙ append-nil edges)

@@ -1,22 +1,15 @@
 -- The rows after a header, one by one.
-use Rattle.std.proofs.Common.{◌≡◌, ◌<◌, ◌≤◌, ◌+◌, ◌⊎◌, inl, inr, ◌∙◌, ℕ, Bool, List, [], ◌∷◌, refl, sym, ap}
+use Rattle.std.proofs.Common.{◌≡◌, ◌<◌, ◌+◌, ◌∙◌, ℕ, Bool, List, [], ◌∷◌, refl, sym, ap}
 use Rattle.std.proofs.Common.{map, drop, get_or, length, arith, append_assoc, Result, Ok, Err}
-use Rattle.std.proofs.lemmas.List.{append-nil, drop_more, drop_all}
-use Rattle.case_csv.specs.declared.fault.CsvFault.{CsvFault}
-use Rattle.case_csv.specs.declared.fault.CsvFault.TheVariants as faults
+use Rattle.std.proofs.lemmas.List.{drop_more}
 use Rattle.case_csv.specs.declared.table.Table.{Table}
 use Rattle.field_core.specs.Answers.{and_then, mapped}
 use Rattle.case_csv.specs.Answers.{RowFault, told}
 use Rattle.case_csv.specs.Records.{Fields}
 use Rattle.case_csv.specs.Table.{bare, RowSaid, row_edges, table_edges, row_of, rows_of, wrong_count}
-use Rattle.case_csv.specs.View.{cells_in, kept, more_rows, rows_table, with_row}
-use Rattle.case_csv.proofs.Results.{made_of, unmade, handed, mapped_on}
-use Rattle.case_csv.proofs.RowEntries.{kept_none, kept_append}
-
-none_behind : (keep : Bool) (table : Table) (r : Result (List RowSaid) RowFault) → table.weights ≡ [] → table.p ≡ [] → table.edges ≡ []
-    → mapped (rows_table keep) r ≡ mapped (more_rows keep 0 table) r
-none_behind keep table (Ok rows) w p e = rw (w, p, e) refl
-none_behind keep table (Err fault) w p e = refl
+use Rattle.case_csv.specs.View.{cells_in, kept, more_rows, with_row}
+use Rattle.case_csv.proofs.Results.{made_of}
+use Rattle.case_csv.proofs.RowEntries.{kept_append}
 
 more : (keep : Bool) (from : ℕ) (table : Table) (row : RowSaid) (rows : List RowSaid)
     → more_rows keep from table (row ∷ rows) ≡ more_rows keep (from + 1) (with_row keep from table row) rows
@@ -30,10 +23,6 @@ module _ (keep : Bool) (width : ℕ) (names : List (List ℕ)) where
   -- the rows that were taken, with those of the records that are left
   abbrev pub with_rest : Table → ℕ → List Fields → Result Table RowFault
   with_rest table from left = mapped (more_rows keep from table) (rows_of width (from + 2) (drop from names) (cells_in left))
-
-  pub none_read : (table : Table) (left : List Fields) → table.weights ≡ [] → table.p ≡ [] → table.edges ≡ []
-      → mapped (rows_table keep) (rows_of width 2 names (cells_in left)) ≡ with_rest table 0 left
-  none_read table left w p e = none_behind keep table (rows_of width 2 names (cells_in left)) w p e
 
   abbrev one_read : Table → ℕ → Result RowSaid RowFault → ℕ → List Fields → Result Table RowFault
   one_read table from r number left = mapped (more_rows keep from table)
@@ -63,29 +52,6 @@ module _ (keep : Bool) (width : ℕ) (names : List (List ℕ)) where
       ∙ ap (λ r. one_read table from r (from + 1 + 2) left) (ap (λ n. row_of width (from + 2) n (map bare fields)) (sym is) ∙ row.1)
       ∙ later table from row.0 (rows_of width (from + 1 + 2) (drop (from + 1) names) (cells_in left)) ∙ ap (λ t. with_rest t (from + 1) left) (sym row.2)
 
-  -- a row is refused
-  pub one_bad : (table : Table) (from : ℕ) (name : List ℕ) (fields : Fields) (left : List Fields) (e : CsvFault) → from < length names
-      → name ≡ get_or names from []
-      → (e ≡ faults.NoMemory) ⊎ (told (mapped (with_row keep from table) (row_of width (from + 2) name (map bare fields))) ≡ Err e)
-      → (e ≡ faults.NoMemory) ⊎ (told (with_rest table from (fields ∷ left)) ≡ Err e)
-  one_bad table from name fields left e small is (inl memory) = inl memory
-  one_bad table from name fields left e small is (inr bad) =
-      inr (ap told (one_of_rest table from fields left small)
-      ∙ mapped_on (more_rows keep from table) _ e (handed (row_of width (from + 2) (get_or names from []) (map bare fields)) _ e
-      (ap (λ n. told (row_of width (from + 2) n (map bare fields))) (sym is) ∙ unmade (with_row keep from table) _ e bad)))
-
   -- a record is missing
   pub missing : (table : Table) (from : ℕ) → from < length names → with_rest table from [] ≡ wrong_count (from + 2)
   missing table from small = ap (λ ns. mapped (more_rows keep from table) (rows_of width (from + 2) ns [])) (drop_more names from [] small)
-
-  -- a record is surplus
-  pub surplus : (table : Table) (from : ℕ) (fields : Fields) (left : List Fields) → length names ≤ from
-      → with_rest table from (fields ∷ left) ≡ wrong_count (from + 2)
-  surplus table from fields left end =
-      ap (λ ns. mapped (more_rows keep from table) (rows_of width (from + 2) ns (cells_in (fields ∷ left)))) (drop_all from names end)
-
-  -- all are taken
-  pub all_taken : (table : Table) (from : ℕ) → length names ≤ from → with_rest table from [] ≡ Ok table
-  all_taken table from end =
-      ap (λ ns. mapped (more_rows keep from table) (rows_of width (from + 2) ns [])) (drop_all from names end)
-      ∙ ap Ok (rw (append-nil table.weights, append-nil table.p, kept_none keep, append-nil table.edges) refl)

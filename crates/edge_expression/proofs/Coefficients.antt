@@ -41,9 +41,6 @@ degree_least (suc n) x e = absurd (omega arith)
 abbrev pub held : ShortFraction → Result Terms ValueFault
 held x = Ok (short_terms x)
 
-abbrev pub fails : ValueFault → Result Terms ValueFault
-fails f = Err f
-
 pub product_none : (x y : List Terms) (k : ℕ) → product_sum x y k 0 ≡ Ok zero_terms
 unfolding product_sum
 product_none x y k = refl

@@ -69,12 +69,6 @@ order_below p some = elim (cases_lt (order p) (length p)) [
   | inr l ↦ let low = order_within p in absurd (some (lowest_is_zero p (omega arith)))
 ]
 
-pub order_at_end : (p : List ℤ) → lowest p ≡ pos 0 → order p ≡ length p
-order_at_end p e = elim (cases_lt (order p) (length p)) [
-  | inl l ↦ absurd (order_some p l e)
-  | inr l ↦ let low = order_within p in omega arith
-]
-
 -- each coefficient of the zero polynomial is 0
 pub none_but_zero : (p : List ℤ) → lowest p ≡ pos 0 → (k : ℕ) → coefficient p k ≡ pos 0
 none_but_zero p none k = lowest-none p none k ∙ coefficient-past [] k (omega arith)

@@ -3,7 +3,6 @@ use Rattle.std.proofs.Common.{◌≡◌, sym, ap, ◌∙◌, subst, ℕ, suc, �
 use Rattle.std.proofs.Common.{pos, negsuc, ◌+ℤ◌, ◌*ℤ◌, int_div, unsigned_abs, Option, Some}
 use Rattle.std.specs.Option.{option_map}
 use Rattle.std.proofs.lemmas.Int.{ints, unsigned_abs-mul}
-use Rattle.std.proofs.lemmas.Nat.{pow-add}
 use Rattle.std.proofs.Math.Nat.{mul-le-mul, div-le_self}
 use Rattle.field_core.specs.Divisor.{gcd}
 use Rattle.field_core.specs.Terms.{Terms}
@@ -125,6 +124,3 @@ parts_within op x y a b p q h =
     (single g.0, ap (λ r. option_map single r) g.1, g.2)
 
 -- ---- limits that are powers of two
-
-pub powers : (k l : ℕ) → 2 ^ k * 2 ^ l ≡ 2 ^ (k + l)
-powers k l = sym (pow-add 2 k l)

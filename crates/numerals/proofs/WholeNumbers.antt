@@ -37,9 +37,5 @@ number_found most text n d s f e = record { digits = are_digits text d; some = s
 pub number_below : (most : ℕ) (text : List ℕ) (n : ℕ) → length text ≤ most → n < 10 ^ length text → n < 10 ^ most
 number_below most text n f b = let p : 10 ^ length text ≤ 10 ^ most = pow-le-pow_right (omega arith) f in omega (arith, b, p)
 
--- a text writes at most one number
-pub one_number : (most : ℕ) (text : List ℕ) (m n : ℕ) → WritesNumber most text m → WritesNumber most text n → m ≡ n
-one_number most text m n h k = h.writes ∙ sym k.writes
-
 -- the answers of `whole_number`
 pub ruleset whole_numbers = (empty_none, long_none, other_none, are_digits, number_found, number_below)

@@ -1,5 +1,5 @@
 -- The written removal of a hypothesis from a graph of short fractions is defined.
-use Rattle.std.proofs.Common.{◌≡◌, ◌≢◌, ◌⊎◌, inl, inr, refl, sym, ap, ◌∙◌, ℕ, zero, suc, ◌<◌, ◌^◌, ◌==◌, ◌||◌, not}
+use Rattle.std.proofs.Common.{◌≡◌, ◌≢◌, inl, inr, refl, sym, ap, ◌∙◌, ℕ, zero, suc, ◌<◌, ◌^◌, ◌==◌, ◌||◌, not}
 use Rattle.std.proofs.Common.{arith, Bool, true, false, if◌then◌else◌, List, [], ◌∷◌, ◌++◌, Option, Some, None, Result, Ok}
 use Rattle.std.proofs.lemmas.Bool.Decides.{nat_tests}
 use Rattle.field_core.specs.Kind.{Parts, is_zero}
@@ -45,9 +45,6 @@ module _ {A B E : Type 0} where
 
 pub at_made : {A : Type 0} (p : Place) (op : Op) (r : Option A) (x : A) → r ≡ Some x → at p op r ≡ Ok x
 at_made p op r x e = ap (λ q. at p op q) e
-
-last : (l n : ℕ) → l < suc n → (l ≡ n) ⊎ (l < n)
-last l n h = grind arith
 
 module _ {A E : Type 0} where
   pub each_defined : (n : ℕ) (f : ℕ → Result A E) → ((l : ℕ) → l < n → IsDefined (f l)) → IsDefined (each_below n f)

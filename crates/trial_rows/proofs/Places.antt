@@ -1,7 +1,6 @@
 -- Lists that are written place by place.
 use Rattle.std.proofs.Common.{◌≡◌, refl, ap, ◌∙◌, sym, subst, inl, inr, ℕ, suc, ◌+◌, ◌<◌, List, [], ◌∷◌, length, get_or, set, arith}
-use Rattle.std.proofs.Common.{Bool, true, false, cond, ◌↔◌, ◌&&◌}
-use Rattle.std.specs.Prelude.{IsTrue}
+use Rattle.std.proofs.Common.{Bool, true, ◌↔◌, ◌&&◌}
 use Rattle.std.proofs.lemmas.Bool.{cases_eq}
 use Rattle.std.proofs.lemmas.List.{get_or-set_same, get_or-set_other}
 use Rattle.std.specs.List.{list_all}
@@ -20,11 +19,6 @@ pub all_from_places : {A : Type 0} (test : A → Bool) (d : A) (xs : List A) →
     → list_all test xs ≡ true
 all_from_places test d [] h = refl
 all_from_places test d (x ∷ xs) h = ap (λ b. b && list_all test xs) (h 0 (omega arith)) ∙ all_from_places test d xs (λ k g. h (suc k) (omega arith))
-
--- the mark of a test
-pub mark_of : (P : Type 0) (b : Bool) → IsTrue b ↔ P → IsMark P (cond b 1 0)
-mark_of P true h = inl (h.0 refl, refl)
-mark_of P false h = inr ((λ p. let q : false ≡ true = h.1 p in cc), refl)
 
 -- a mark of what is the same
 pub moved_mark : (P Q : Type 0) (mark : ℕ) → P ↔ Q → IsMark P mark → IsMark Q mark

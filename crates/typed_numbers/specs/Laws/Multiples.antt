@@ -9,9 +9,6 @@ use Rattle.typed_numbers.specs.Laws.Nearest.{nearest_within}
 
 -- ---- the least
 
-pub first_multiple : ℕ → ℕ → ℕ → ℕ
-first_multiple low ends unit = (low + unit - ends) / unit
-
 pub first_from : (low ends unit f : ℕ) → ends ≤ 1 → 0 < unit → f ≡ (low + unit - ends) / unit → low < f * unit + ends
 first_from low ends unit f few some is =
     let x = low + unit - ends in
@@ -23,13 +20,6 @@ first_from low ends unit f few some is =
 pub first_least : (low ends unit f : ℕ) → ends ≤ 1 → 0 < unit → f ≡ (low + unit - ends) / unit → (m : ℕ) → low < m * unit + ends → f ≤ m
 first_least low ends unit f few some is m h =
     let g : (low + unit - ends) / unit < suc m = div_below (low + unit - ends) unit (suc m) some (omega arith) in
-    omega arith
-
-pub first_short : (low ends unit f : ℕ) → ends ≤ 1 → 0 < unit → f ≡ (low + unit - ends) / unit → f * unit ≤ low + unit
-first_short low ends unit f few some is =
-    let x = low + unit - ends in
-    let whole : unit * (x / unit) + x % unit ≡ x = div-add-mod x unit in
-    let same : unit * f ≡ unit * (x / unit) = rw is in
     omega arith
 
 -- ---- the nearest
@@ -72,12 +62,6 @@ inside_from l a g v u f c few lopsided from to r h = elim (cases_lt f c) [
       let same : c ≡ f = omega arith in
       subst (λ z. IsWithin l g v u z) (sym same) (record { from_low = from; to_high = to })
 ]
-
-max_left : (c f : ℕ) → f ≤ c → max c f ≡ c
-max_left c f h = omega arith
-
-max_right : (c f : ℕ) → c < f → max c f ≡ f
-max_right c f h = omega arith
 
 first_is_nearest : (low middle high ends unit f c : ℕ) → 0 < unit → low < f * unit + ends → f * unit < high + ends
     → ((m : ℕ) → low < m * unit + ends → f ≤ m) → IsRounded middle unit c → c < f → IsNearestIn low middle high ends unit f
