@@ -81,7 +81,7 @@ whole_text : (x : Terms) → x.den ≡ pos 1 → spelling x ≡ sign_text (sign_
 unfolding spelling
 whole_text x e = rw e (spelt x.num ∙ sym (append-nil _))
 
-other_text : (n d : ℤ) → (d ≡ pos 1 → ⊥) → fraction_text n d ≡ signed_decimal n ++ 47 ∷ signed_decimal d
+pub other_text : (n d : ℤ) → (d ≡ pos 1 → ⊥) → fraction_text n d ≡ signed_decimal n ++ 47 ∷ signed_decimal d
 other_text n d h = grind (arith, nat_tests, Decides-int_eq)
 
 pair_text : (x : Terms) → pos 0 <ℤ x.den → (x.den ≡ pos 1 → ⊥)

@@ -29,14 +29,6 @@ begun_before old new a text b = record {
   text_is = ap (λ x. x ++ text) b.text_is ∙ append_assoc b.front b.rest text;
 }
 
--- the end of a line that was begun
-pub begun_end : (old mid new a b : List ℕ) → mid ≡ old ++ a → IsBegun mid new b → IsBegun old new ((a ++ b) ++ 10 ∷ [])
-begun_end old mid new a b e h = rw (append_assoc a b (10 ∷ [])) (begun_behind old mid new a (b ++ 10 ∷ []) e (begun_before mid new b (10 ∷ []) h))
-
--- a line of which more wasn't begun
-pub begun_line : (old mid new a b rest : List ℕ) → mid ≡ old ++ a → IsBegun mid new b → IsBegun old new ((a ++ (b ++ rest)) ++ 10 ∷ [])
-begun_line old mid new a b rest e h = begun_end old mid new a (b ++ rest) e (begun_before mid new b rest h)
-
 -- The texts of the first `i` on a list were appended.
 pub record ArePut {A : Type 0} (f : A → List ℕ) (old new : List ℕ) (xs : List A) (i : ℕ) : Type 0 where
   pub front : List ℕ

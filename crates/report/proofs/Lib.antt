@@ -1,7 +1,6 @@
 pub mod Begun
 pub mod EvidenceNames
 pub mod FirstSets
-pub mod HandedOn
 pub mod ListedLines
 pub mod LooksOfCase
 pub mod OfCase

@@ -11,11 +11,6 @@ pub told : {T : Type 0} (r : Result T FileFault) (error : Error) (P : FileFault 
 told (Ok x) error P h k = tt
 told (Err f) error P h k = k f h
 
--- where a call went well, what that gives holds
-pub goes_well : {T E : Type 0} (r : Result T E) (A B : Type 0) → OnOk r A → (A → B) → OnOk r B
-goes_well (Ok x) A B h k = k h
-goes_well (Err error) A B h k = tt
-
 -- the same of what holds under a condition
 pub goes_well_under : {T E : Type 0} (r : Result T E) (H A B : Type 0) → (H → OnOk r A) → ((H → A) → B) → OnOk r B
 goes_well_under (Ok x) H A B h k = k h

@@ -20,7 +20,8 @@ use Rattle.field_core.specs.declared.ratio.Ratio.{Ratio}
 use Rattle.fraction.specs.Spelling.{spelling}
 use Rattle.fraction.proofs.SameRatios.{same_ratio}
 use Rattle.study_sqlite.proofs.PrintedNumbers.{printed_ascii}
-use Rattle.study_sqlite.proofs.Slashes.{heads, number_plain, one_or_not, whole_form, pair_form, whole_only, pair_only}
+use Rattle.study_sqlite.proofs.Slashes.{heads, number_plain, one_or_not, whole_form, whole_only, pair_only}
+use Rattle.fraction.proofs.ReadBack.{other_text}
 
 -- ---- parts of a fraction
 
@@ -78,7 +79,7 @@ one_text x y e =
       | inl one ↦ (let both = whole_only y.num y.den (signed_decimal x.num) (number_plain x.num (num_fits x)) (sym (whole_form x.num x.den one) ∙ e) in
           same_parts x y (one_number x.num y.num (num_fits x) (num_fits y) both.1) (one ∙ sym both.0))
       | inr other ↦ (let both = pair_only y.num y.den (signed_decimal x.num) (signed_decimal x.den) (num_fits y)
-          (number_plain x.num (num_fits x)) (sym (pair_form x.num x.den other) ∙ e) in
+          (number_plain x.num (num_fits x)) (sym (other_text x.num x.den other) ∙ e) in
           same_parts x y (one_number x.num y.num (num_fits x) (num_fits y) both.1) (one_number x.den y.den (den_fits x) (den_fits y) both.2))
     ]
 

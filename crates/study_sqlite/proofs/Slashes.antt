@@ -5,13 +5,13 @@ use Rattle.std.specs.Int.{w128}
 use Rattle.std.specs.Fmt.{decimal, signed_decimal}
 use Rattle.std.specs.Str.Parse.{AllDigits}
 use Rattle.std.proofs.lemmas.Bool.{cases_eq}
-use Rattle.std.proofs.lemmas.Bool.Decides.{nat_tests, Decides-int_eq}
 use Rattle.std.proofs.lemmas.Fmt.{decimal_is_IsNumeral_wide}
 use Rattle.std.proofs.lemmas.Str.Parse.{digit_from_value}
 use mir.Val.{to_z, of_z}
 use Rattle.std.proofs.lemmas.Int.{to_z-of_z}
 use Rattle.field_core.specs.Texts.{fraction_text}
 use Rattle.study_sqlite.specs.Parts.{HasNoSlash}
+use Rattle.fraction.proofs.ReadBack.{other_text}
 
 -- ---- one way to cut
 
@@ -47,9 +47,6 @@ number_plain (negsuc n) f = ((λ e. omega arith), digits_plain (decimal (suc n))
 pub whole_form : (n d : ℤ) → d ≡ pos 1 → fraction_text n d ≡ signed_decimal n
 whole_form n d e = rw e refl
 
-pub pair_form : (n d : ℤ) → (d ≡ pos 1 → ⊥) → fraction_text n d ≡ signed_decimal n ++ 47 ∷ signed_decimal d
-pair_form n d h = grind (arith, nat_tests, Decides-int_eq)
-
 pub one_or_not : (d : ℤ) → (d ≡ pos 1) ⊎ (d ≡ pos 1 → ⊥)
 one_or_not (pos n) = elim (cases_eq n 1) [ inl e ↦ inl (ap pos e) | inr h ↦ inr (λ e. h (cc)) ]
 one_or_not (negsuc n) = inr (λ e. (cc))
@@ -59,7 +56,7 @@ pub whole_only : (n d : ℤ) (over : List ℕ) → HasNoSlash over → over ≡ 
 whole_only n d over plain is =
     elim (one_or_not d) [
       | inl e ↦ (e, is ∙ whole_form n d e)
-      | inr h ↦ absurd (slash_within (signed_decimal n) (signed_decimal d) (subst HasNoSlash (is ∙ pair_form n d h) plain))
+      | inr h ↦ absurd (slash_within (signed_decimal n) (signed_decimal d) (subst HasNoSlash (is ∙ other_text n d h) plain))
     ]
 
 -- what is cut at a slash is a pair of printed numbers
@@ -68,7 +65,7 @@ pub pair_only : (n d : ℤ) (over under : List ℕ) → FitsSigned w128 n → Ha
 pair_only n d over under fits plain is =
     elim (one_or_not d) [
       | inl e ↦ absurd (slash_within over under (subst HasNoSlash (sym (is ∙ whole_form n d e)) (number_plain n fits)))
-      | inr h ↦ (let both = cut_once over under (signed_decimal n) (signed_decimal d) plain (number_plain n fits) (is ∙ pair_form n d h) in
+      | inr h ↦ (let both = cut_once over under (signed_decimal n) (signed_decimal d) plain (number_plain n fits) (is ∙ other_text n d h) in
           (h, both.0, both.1))
     ]
 

@@ -8,7 +8,7 @@ use Rattle.typed_numbers.specs.Rounding.{RoundsTo, units_of, distance}
 use Rattle.typed_numbers.specs.Rules.{IsNearest}
 use Rattle.typed_numbers.specs.Searches.{IsIntervalBy, IsIntervalOf, IsWithin, IsDecimalIn, IsNearestDecimal, gap}
 use Rattle.typed_numbers.specs.Laws.Values.{intervals_round, units_are}
-use Rattle.typed_numbers.specs.Laws.Total.{ten_some}
+use Rattle.numerals.proofs.DigitNumbers.{power_some}
 
 -- ---- a common factor of both sides
 
@@ -165,7 +165,7 @@ module _ (bits places l m h v : ℕ) (finite : bits < 2047 * 2 ^ 52) (i : IsInte
   rounds_decimal n j hj k =
       let s = shift_by (exponent_of bits) in
       let some : 0 < 2 ^ j * 2 ^ s = mul-pos (pow_pos j) (pow_pos s) in
-      let r = to_parts (exponent_of bits) (digits_of bits) places l m h v n (10 ^ j) i ((intervals_round bits n (10 ^ j) finite (ten_some j)).1 k) in
+      let r = to_parts (exponent_of bits) (digits_of bits) places l m h v n (10 ^ j) i ((intervals_round bits n (10 ^ j) finite (power_some j)).1 k) in
       coarse l h v (2 ^ s) (2 ^ (places - j)) (5 ^ j) (2 ^ j) (4 * 2 ^ 1074) (10 ^ j) n few some (ten_split j) (unit_at places j s hj i.unit) r
 
   pub decimal_rounds : (n j : ℕ) → j ≤ places → IsDecimalIn places l h v j n → RoundsTo bits n (10 ^ j)
@@ -174,7 +174,7 @@ module _ (bits places l m h v : ℕ) (finite : bits < 2047 * 2 ^ 52) (i : IsInte
       let s = shift_by (exponent_of bits) in
       let some : 0 < 2 ^ j * 2 ^ s = mul-pos (pow_pos j) (pow_pos s) in
       let r = fine l h v (2 ^ s) (2 ^ (places - j)) (5 ^ j) (2 ^ j) (4 * 2 ^ 1074) (10 ^ j) n few some (ten_split j) (unit_at places j s hj i.unit) k in
-      (intervals_round bits n (10 ^ j) finite (ten_some j)).0 (of_parts (exponent_of bits) (digits_of bits) places l m h v n (10 ^ j) i r)
+      (intervals_round bits n (10 ^ j) finite (power_some j)).0 (of_parts (exponent_of bits) (digits_of bits) places l m h v n (10 ^ j) i r)
 
   distance_is : (n j : ℕ) → j ≤ places
       → gap (n * 2 ^ (places - j)) (m * 5 ^ j) * (2 ^ j * 2 ^ shift_by (exponent_of bits)) ≡ 4 * distance bits n (10 ^ j)

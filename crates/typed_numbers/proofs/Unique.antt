@@ -11,7 +11,8 @@ use Rattle.typed_numbers.specs.Rules.{IsSimplest, IsNearest, IsShortest, IsRound
 use Rattle.typed_numbers.specs.Searches.{gap}
 use Rattle.typed_numbers.specs.Laws.Values.{intervals_round}
 use Rattle.typed_numbers.specs.Laws.Doubles.{below_two}
-use Rattle.typed_numbers.specs.Laws.Total.{small, ten_some}
+use Rattle.typed_numbers.specs.Laws.Total.{small}
+use Rattle.numerals.proofs.DigitNumbers.{power_some}
 
 -- ---- the simplest fraction
 
@@ -113,7 +114,7 @@ shortest_unique bits m p n q short k l =
     let b : l.places ≤ k.places = l.fewest m k.places rk in
     let e : k.places ≡ l.places = omega arith in
     let same : p ≡ q = k.power ∙ ap (λ z. 10 ^ z) e ∙ sym l.power in
-    let some : 0 < q = subst (λ z. 0 < z) (sym l.power) (ten_some l.places) in
+    let some : 0 < q = subst (λ z. 0 < z) (sym l.power) (power_some l.places) in
     (nearest_unique bits q m n short some (subst (λ z. IsNearest bits m z) same k.nearest) l.nearest, same)
 
 rounded_unique : (bits m p n q : ℕ) → IsRoundedUp bits m p → IsRoundedUp bits n q → (m ≡ n) × (p ≡ q)

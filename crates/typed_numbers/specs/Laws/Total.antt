@@ -16,6 +16,7 @@ use Rattle.typed_numbers.specs.Searches.{gap, IsWithin, IsNearestIn}
 use Rattle.typed_numbers.specs.Laws.Values.{intervals_round}
 use Rattle.typed_numbers.specs.Laws.Multiples.{nearest_or_none, first_from, first_least}
 use Rattle.typed_numbers.specs.Laws.Doubles.{lopsided, ends_few, scale_is, units_at_most_one, below_one, one_rounds, one_alone}
+use Rattle.numerals.proofs.DigitNumbers.{power_some}
 
 -- ---- the least number that has a property
 
@@ -137,20 +138,16 @@ simplest_or_none bits short = elim (least_or_none (HasSome bits) (λ q. some_or_
 HasDecimal : ℕ → ℕ → Type 0
 HasDecimal bits j = (n : ℕ) × IsNearest bits n (10 ^ j)
 
-pub ten_some : (j : ℕ) → 0 < 10 ^ j
-ten_some zero = omega arith
-ten_some (suc j) = let f = ten_some j in omega arith
-
 decimal_or_none : (bits j : ℕ) → bits < 2047 * 2 ^ 52 → HasDecimal bits j ⊎ ¬ HasDecimal bits j
 unfolding HasDecimal
-decimal_or_none bits j short = elim (nearest_at bits (10 ^ j) short (ten_some j)) [
+decimal_or_none bits j short = elim (nearest_at bits (10 ^ j) short (power_some j)) [
   | inl w ↦ inl w
   | inr none ↦ inr (λ h. none h.0 h.1.rounds)
 ]
 
 has_decimal : (bits j m : ℕ) → bits < 2047 * 2 ^ 52 → RoundsTo bits m (10 ^ j) → HasDecimal bits j
 unfolding HasDecimal
-has_decimal bits j m short h = elim (nearest_at bits (10 ^ j) short (ten_some j)) [
+has_decimal bits j m short h = elim (nearest_at bits (10 ^ j) short (power_some j)) [
   | inl w ↦ w
   | inr none ↦ absurd (none m h)
 ]
@@ -222,7 +219,7 @@ parts_at_most_one bits n q h (simplest k) = (k.some, by_bits (cases_lt bits 0x3f
 parts_at_most_one bits n q h (shortest none k) = (some, below_one bits n q below some k.nearest.rounds, ten_few q k.places k.power k.within)
   where
     some : 0 < q
-    some = subst (λ z. 0 < z) (sym k.power) (ten_some k.places)
+    some = subst (λ z. 0 < z) (sym k.power) (power_some k.places)
 
     below : bits < 0x3ff0_0000_0000_0000
     below = not_one bits h none

@@ -1,6 +1,7 @@
 use Rattle.std.proofs.Common.{◌≡◌, ◌⊎◌, inl, inr, sym, ◌∙◌, ap, ℕ, ◌+◌, ◌^◌, ◌<◌, ◌≤◌, true, false, List, get_or, min}
 use Rattle.std.proofs.Common.{arith}
 use Rattle.field_core.specs.NumberedSets.{members}
+use Rattle.field_core.proofs.Positions.{at_or_below}
 use Rattle.discovery_bound.proofs.bounds.least_before.Goals as goal
 use Rattle.discovery_bound.proofs.bounds.least_before.Goals.{then-holds, else-holds}
 
@@ -11,12 +12,9 @@ abbrev IsReached : ℕ → ℕ → List ℕ → ℕ → Type 0
 IsReached m set bounds least = (least ≡ 16)
     ⊎ ((j : ℕ) × (o : ℕ) × (j < m) × (members set j ≡ true) × (o + 2 ^ j ≡ set) × (least ≡ get_or bounds o 0))
 
-at_or_below : (i n : ℕ) → i < n + 1 → (i ≡ n) ⊎ (i < n)
-at_or_below i n p = grind arith
-
 most_next : (k set : ℕ) (bounds : List ℕ) (least next o : ℕ) → o + 2 ^ k ≡ set → next ≤ least → next ≤ get_or bounds o 0
     → IsAtMost k set bounds least → IsAtMost (k + 1) set bounds next
-most_next k set bounds least next o e a b h j q p t f = elim (at_or_below j k p) [
+most_next k set bounds least next o e a b h j q p t f = elim (at_or_below j k (omega arith)) [
   | inl same ↦
       let powers : 2 ^ j ≡ 2 ^ k = ap (λ i. 2 ^ i) same in
       let which : q ≡ o = omega (arith, e, f, powers) in
@@ -25,7 +23,7 @@ most_next k set bounds least next o e a b h j q p t f = elim (at_or_below j k p)
 ]
 
 most_skip : (k set : ℕ) (bounds : List ℕ) (least : ℕ) → members set k ≡ false → IsAtMost k set bounds least → IsAtMost (k + 1) set bounds least
-most_skip k set bounds least out h j q p t f = elim (at_or_below j k p) [
+most_skip k set bounds least out h j q p t f = elim (at_or_below j k (omega arith)) [
   | inl same ↦ absurd (clash (sym t ∙ ap (members set) same ∙ out))
   | inr r ↦ h j q r t f
 ]

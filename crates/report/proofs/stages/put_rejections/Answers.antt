@@ -2,8 +2,8 @@ use Rattle.std.proofs.Common.{◌<◌, ◌≤◌, length, arith}
 use Rattle.case_model.specs.CaseView.{content}
 use Rattle.report.specs.StagesReport.{reject_line}
 use Rattle.report.proofs.Begun.{none_put, one_put, one_begun, all_put}
-use Rattle.report.proofs.HandedOn.{fault_on}
 use Rattle.report.proofs.stages.put_rejections.Goals as goal
+use Rattle.field_core.proofs.Results.{on_err}
 
 pub loop-rejection-init : goal.loop-rejection-init
 loop-rejection-init c = none_put (reject_line (content c.args.case.now)) c.args.text.now c.args.look.now
@@ -17,7 +17,7 @@ loop-rejection-preserved c =
 pub returns-in_err-put_rejection-clause-begun : goal.returns-in_err-put_rejection-clause-begun
 returns-in_err-put_rejection-clause-begun c =
     let below : c.loop-rejection.rejection-index < length c.args.look.now = omega arith in
-    fault_on c.from_residual.result _
+    on_err c.from_residual.result _
     (one_begun (reject_line (content c.args.case.now)) c.args.text.now c.loop-rejection.text c.put_rejection.new.text c.args.look.now
     c.loop-rejection.rejection-index c.rejection-item.result c.loop-rejection.invariant below c.rejection-item.is c.in_err-put_rejection.ensures.begun)
 

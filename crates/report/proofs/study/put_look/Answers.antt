@@ -8,8 +8,8 @@ use Rattle.case_model.specs.CaseView.{content}
 use Rattle.report.specs.StudyReport.{look_line}
 use Rattle.report.specs.TestReport.{spaced_name}
 use Rattle.report.proofs.Begun.{begun_behind, begun_before}
-use Rattle.report.proofs.HandedOn.{fault_on}
 use Rattle.report.proofs.study.put_look.Goals as goal
+use Rattle.field_core.proofs.Results.{on_err}
 
 pub returns-in_err-put_name-clause-begun : goal.returns-in_err-put_name-clause-begun
 unfolding look_line
@@ -18,7 +18,7 @@ returns-in_err-put_name-clause-begun c =
     let name = spaced_name (content c.args.case.now) l.hypothesis in
     let rest : List ℕ = codes " " ++ (decimal l.stage ++ (codes " " ++ (spelling (terms l.p) ++ 10 ∷ []))) in
     let e : look_line (content c.args.case.now) l ≡ codes "look" ++ (name ++ rest) = simp append_assoc in
-    fault_on c.from_residual-in_err-put_name.result _
+    on_err c.from_residual-in_err-put_name.result _
     (subst (λ t. IsBegun c.args.text.now c.put_name.new.text t) (sym e)
     (begun_behind c.args.text.now c.append.new.self c.put_name.new.text (codes "look") (name ++ rest) c.in_ok-append.ensures.appended
     (begun_before c.append.new.self c.put_name.new.text name rest c.in_err-put_name.ensures.begun)))

@@ -1,15 +1,15 @@
 use Rattle.std.proofs.Common.{[], inl, inr}
 use Rattle.sqlite.specs.Held.{state}
 use Rattle.study_sqlite.specs.Kept.{IsLookRefused, IsLookCut}
-use Rattle.study_sqlite.proofs.Faults.{goes_well}
 use Rattle.study_sqlite.specs.Statements.{make_sql, RanInto}
 use Rattle.study_sqlite.proofs.Memory.{memory_passed, memory_known, memory_as}
 use Rattle.study_sqlite.proofs.Refusals.{refused_as}
 use Rattle.study_sqlite.proofs.kept.keep_in.Goals as goal
+use Rattle.field_core.proofs.Results.{on_ok}
 
 pub returns-clause-put : goal.returns-clause-put
 returns-clause-put g c clean =
-    goes_well c.put.result _ _ (c.put.ensures.ran clean)
+    on_ok c.put.result _ _ (c.put.ensures.ran clean)
     (λ ran. record {
       middle = c.make.new.connection;
       row = c.in_ok-row.row;
