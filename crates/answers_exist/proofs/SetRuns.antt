@@ -1,13 +1,14 @@
 -- The runs of all sets of a case are defined, or one of them is the first that isn't; and where they are, the sets have weights.
-use Rattle.std.proofs.Common.{◌≡◌, ◌⊎◌, inl, inr, refl, sym, ap, ap₂, ◌∙◌, ℕ, ◌^◌, ◌<◌, arith, List, [], ◌∷◌}
+use Rattle.std.proofs.Common.{◌≡◌, ◌⊎◌, inl, inr, sym, ap, ◌∙◌, ℕ, ◌^◌, ◌<◌, List}
 use Rattle.std.proofs.Common.{length, Ok, Err}
 use Rattle.field_core.specs.declared.place.WideAt.{WideAt}
 use Rattle.field_core.specs.declared.ratio.Ratio.{Ratio}
 use Rattle.field_core.specs.NumberedSets.{members}
-use Rattle.field_core.specs.OrderOfSets.{left_out, ComesBefore}
+use Rattle.field_core.specs.OrderOfSets.{left_out}
 use Rattle.field_core.specs.Runs.{left_after}
 use Rattle.field_core.specs.Sets.{IsIn, HaveSameMembers, whole}
-use Rattle.field_core.proofs.Positions.{compared, below_or_not}
+use Rattle.field_core.proofs.ListOrder.{not_itself}
+use Rattle.field_core.proofs.Positions.{below_or_not}
 use Rattle.field_core.proofs.SetOrders.{out_leaves, out_order}
 use Rattle.fraction.specs.View.{number_of}
 use Rattle.case_model.specs.Content.{Content, entangled}
@@ -21,46 +22,18 @@ use Rattle.closed_test.specs.Paths.{number_without}
 use Rattle.closed_test.specs.SetLists.{AreSetsInOrder}
 use Rattle.closed_test.specs.SetRuns.{set_run, IsEarlierSet, AreRunsDefined, IsFirstWideSet}
 use Rattle.closed_test.specs.SetWeights.{AreIntersectionWeights}
-use Rattle.closed_test.proofs.SetLists.{number_out}
+use Rattle.closed_test.proofs.SetLists.{number_out, before_both, before_or_behind}
 use Rattle.answers_exist.proofs.Results.{value_or_fault, not_both}
 use Rattle.answers_exist.proofs.Sorting.{in_order, first_of_all}
 
 -- ---- the order of sets
-
-before_both : (js ks ls : List ℕ) → ComesBefore js ks → ComesBefore ks ls → ComesBefore js ls
-before_both js ks [] a b = absurd b
-before_both js [] (l ∷ ls) a b = absurd a
-before_both [] (k ∷ ks) (l ∷ ls) a b = tt
-before_both (j ∷ js) (k ∷ ks) (l ∷ ls) (inl p) (inl q) = inl (omega (arith, p, q))
-before_both (j ∷ js) (k ∷ ks) (l ∷ ls) (inl p) (inr q) = inl (omega (arith, p, q.0))
-before_both (j ∷ js) (k ∷ ks) (l ∷ ls) (inr p) (inl q) = inl (omega (arith, p.0, q))
-before_both (j ∷ js) (k ∷ ks) (l ∷ ls) (inr p) (inr q) = inr (p.0 ∙ q.0, before_both js ks ls p.1 q.1)
-
-not_before_itself : (js : List ℕ) → ¬ ComesBefore js js
-not_before_itself [] b = b
-not_before_itself (j ∷ js) (inl p) = absurd (omega (arith, p))
-not_before_itself (j ∷ js) (inr p) = not_before_itself js p.1
-
-before_or_behind : (js ks : List ℕ) → (js ≡ ks) ⊎ (ComesBefore js ks ⊎ ComesBefore ks js)
-before_or_behind [] [] = inl refl
-before_or_behind [] (k ∷ ks) = inr (inl tt)
-before_or_behind (j ∷ js) [] = inr (inr tt)
-before_or_behind (j ∷ js) (k ∷ ks) = elim (compared j k) [
-  | inl e ↦ elim (before_or_behind js ks) [
-    | inl f ↦ inl (ap₂ ◌∷◌ e f)
-    | inr (inl b) ↦ inr (inl (inr (e, b)))
-    | inr (inr b) ↦ inr (inr (inr (sym e, b)))
-  ]
-  | inr (inl p) ↦ inr (inl (inl p))
-  | inr (inr p) ↦ inr (inr (inl p))
-]
 
 module _ (m : ℕ) where
   earlier_both : (n o q : ℕ) → IsEarlierSet m n o → IsEarlierSet m o q → IsEarlierSet m n q
   earlier_both n o q = before_both (left_out m (members n)) (left_out m (members o)) (left_out m (members q))
 
   not_earlier_itself : (n : ℕ) → ¬ IsEarlierSet m n n
-  not_earlier_itself n = not_before_itself (left_out m (members n))
+  not_earlier_itself n = not_itself (left_out m (members n))
 
   earlier_or_later : (n o : ℕ) → n < 2 ^ m → o < 2 ^ m → ¬ (n ≡ o) → IsEarlierSet m n o ⊎ IsEarlierSet m o n
   earlier_or_later n o p q other = elim (before_or_behind (left_out m (members n)) (left_out m (members o))) [

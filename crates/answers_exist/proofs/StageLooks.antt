@@ -18,7 +18,8 @@ use Rattle.staged_levels.proofs.CaseArrivals.{arrival_may}
 use Rattle.staged_levels.proofs.LookSteps.{look_values}
 use Rattle.study_register.specs.RegisterFaults.{IsBadLook}
 use Rattle.study_register.proofs.EachEnd.{look_ends}
-use Rattle.study_register.proofs.TakenLooks.{opened_study, taken_study}
+use Rattle.staged_levels.proofs.StateFacts.{start_study}
+use Rattle.study_register.proofs.TakenLooks.{taken_study}
 use Rattle.answers_exist.proofs.Results.{value_or_fault}
 
 -- an arrival, as a look
@@ -71,7 +72,7 @@ module _ (c : Content) where
     | inr w ↦ inr (inl w)
     | inl t ↦
         let D : IsDefined c start = record { state = t.0; state_is = after_opening c t.0 t.1 } in
-        elim (looks_or_break V (arrivals_of c.inputs) start 1 (opened_study c V) D refl) [
+        elim (looks_or_break V (arrivals_of c.inputs) start 1 (start_study c V) D refl) [
           | inl ls ↦ inl (ls.0, record { opened = D; end = ls.1; lead = ls.2 })
           | inr f ↦ inr (inr (f.0, f.1, record { opened = D; first = f.2 }))
         ]

@@ -1,5 +1,5 @@
 -- Each study has an outcome.
-use Rattle.std.proofs.Common.{◌⊎◌, inl, inr, refl, sym, ap, subst, ℕ, ◌+◌, arith, List, [], ◌∷◌, ◌++◌, length, Option, Some, None}
+use Rattle.std.proofs.Common.{◌⊎◌, inl, inr, refl, ap, ℕ, ◌+◌, arith, List, [], ◌∷◌, ◌++◌, length, Option, Some, None}
 use Rattle.std.proofs.Common.{Ok}
 use Rattle.std.specs.List.{AllByRecursion}
 use Rattle.std.specs.Prelude.{codes}
@@ -20,11 +20,10 @@ use Rattle.refusals.specs.declared.wide.When.TheVariants.{Look as AfterLook}
 use Rattle.report.specs.StudyReport.{Reply, taken, refused as refusing, shown, study_report}
 use Rattle.staged_levels.specs.Looks.{IsDefined}
 use Rattle.staged_levels.specs.Studies.{StudyState, start, IsStudyOf}
-use Rattle.study_register.specs.Looking.{Follows}
 use Rattle.study_register.specs.RegisterFaults.{IsFirstStop, IsStopped}
 use Rattle.study_register.specs.declared.fault.RegisterFault.{RegisterFault}
 use Rattle.study_register.specs.declared.fault.RegisterFault.TheVariants.{BadLook, Wide, Fault, NoMemory}
-use Rattle.study_register.proofs.EachEnd.{look_ends, each_opening_ends}
+use Rattle.study_register.proofs.EachEnd.{look_ends, follows_defined, each_opening_ends}
 use Rattle.study_register.proofs.TakenLooks.{taken_study, taken_is_study}
 use Rattle.study_answers.specs.Commands.{commands_of as commands_said}
 use Rattle.study_answers.specs.CommandFaults.{on_line}
@@ -114,10 +113,6 @@ module _ (c : Content) where
 
   -- ---- the opening
 
-  follows_open : (ls : List Look) (old new : StudyState) → IsDefined c old → Follows c old ls new → IsDefined c new
-  follows_open [] old new D h = subst (IsDefined c) (sym h) D
-  follows_open (l ∷ ls) old new D h = follows_open ls h.0 new h.1.1.is_defined h.2
-
   stop_ends : (looks : List Look) (why : RegisterFault) → IsStopped c looks why → Ends (opened c looks)
   stop_ends looks (BadLook n l) h = inr (record_refusal n, (BadLook n l, h, refl))
   stop_ends looks (Wide n w) h = inr (wide_refusal c.names (AfterLook n) w, (Wide n w, inr h, refl))
@@ -137,7 +132,7 @@ module _ (c : Content) where
   study_ends V xs b looks =
       then_ends (opened c looks) (answering c (length looks) xs) (opened_ends V looks)
       (λ s T. answering_ends (length looks) xs s
-      (record { study = taken_is_study c V looks s T; is_defined = follows_open looks start s T.opened T.follows }) b)
+      (record { study = taken_is_study c V looks s T; is_defined = follows_defined c looks start s T.opened T.follows }) b)
 
 -- ---- studies
 

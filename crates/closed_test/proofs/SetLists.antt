@@ -28,7 +28,7 @@ pub before_behind : (js xs ys : List ℕ) → ComesBefore xs ys → ComesBefore 
 before_behind [] xs ys b = b
 before_behind (j ∷ js) xs ys b = inr (refl, before_behind js xs ys b)
 
-before_both : (js ks ls : List ℕ) → ComesBefore js ks → ComesBefore ks ls → ComesBefore js ls
+pub before_both : (js ks ls : List ℕ) → ComesBefore js ks → ComesBefore ks ls → ComesBefore js ls
 before_both js ks [] a b = absurd b
 before_both js [] (l ∷ ls) a b = absurd a
 before_both [] (k ∷ ks) (l ∷ ls) a b = tt
@@ -166,7 +166,7 @@ all_listed m sets js L last = record {
 
 -- ---- there is one first set whose run is undefined
 
-before_or_behind : (js ks : List ℕ) → (js ≡ ks) ⊎ (ComesBefore js ks ⊎ ComesBefore ks js)
+pub before_or_behind : (js ks : List ℕ) → (js ≡ ks) ⊎ (ComesBefore js ks ⊎ ComesBefore ks js)
 before_or_behind [] [] = inl refl
 before_or_behind [] (k ∷ ks) = inr (inl tt)
 before_or_behind (j ∷ js) [] = inr (inr tt)

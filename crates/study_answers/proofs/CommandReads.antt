@@ -19,7 +19,8 @@ use Rattle.edge_text.specs.Grammar.{Words, IsArrival}
 use Rattle.edge_text.specs.WordReading.{arrival}
 use Rattle.edge_text.specs.declared.fault.LineKind.{LineKind}
 use Rattle.edge_text.specs.declared.fault.LineKind.TheVariants.{WordCount}
-use Rattle.edge_text.proofs.FormSpells.{lines_of, spells_lines, spelt_document}
+use Rattle.text_lines.proofs.Written.{lines_in}
+use Rattle.edge_text.proofs.FormSpells.{spells_lines, spelt_document}
 use Rattle.edge_text.proofs.Leaves.{arrival_said, arrival_is}
 use Rattle.edge_text.proofs.LinesSaid.{line_said}
 use Rattle.study_answers.specs.declared.command.StudyCommand.{StudyCommand}
@@ -92,7 +93,7 @@ module _ (names : Words) where
             (subst (λ rs. AreMany (command names) (λ ys a. Is {L = List ℕ} {K = LineKind} (Say a)) (before ++ c ∷ []) rs cs rest) (m.4.1 ∙ sym others) m.5),
       )
 
-  seen_texts : (rows : List Row) → lines_of (texts_seen rows) ≡ texts_in rows
+  seen_texts : (rows : List Row) → lines_in (texts_seen rows) ≡ texts_in rows
   seen_texts [] = refl
   seen_texts (row ∷ rows) = ap (λ (ls : Words). row.text ∷ ls) (seen_texts rows)
 

@@ -1,5 +1,5 @@
 -- Commands that are replied to, one after the other.
-use Rattle.std.proofs.Common.{◌≡◌, ◌+◌, ◌<◌, ◌≤◌, inl, inr, refl, sym, ap, ◌∙◌, subst, ℕ, zero, suc, arith, List, []}
+use Rattle.std.proofs.Common.{◌≡◌, ◌+◌, ◌<◌, inl, inr, refl, sym, ap, ◌∙◌, subst, ℕ, zero, suc, arith, List, []}
 use Rattle.std.proofs.Common.{◌∷◌, ◌++◌, length, drop, get_or}
 use Rattle.std.specs.declared.option.Option.{Option}
 use Rattle.std.specs.List.{AllByRecursion, flat_map}
@@ -73,9 +73,6 @@ module _ (c : Content) (old new : StudyState) (l : Look) (T : Takes c old l new)
 
   pub brought_below : AreRejectionsOf c (drop (length old.rejected) new.rejected)
   brought_below = subst (AreRejectionsOf c) (sym brought) (look_below c old new (arrival_of l) T.0 T.1)
-
-  pub no_fewer : length old.rejected ≤ length new.rejected
-  no_fewer = let e = ap length T.1.rejected in let n = length-append old.rejected T.0 in omega (arith, e, n)
 
 -- ---- one command
 
@@ -151,9 +148,6 @@ broken_weaker NoMemory P Q f h = f h
 
 pub broken_by : (stop : CommandStop) (place : ℕ) (w : WideAt) (P : Type 0) → stop ≡ Wide place w → IfBroken P stop → P
 broken_by stop place w P e h = subst (IfBroken P) e h
-
-pub broken_by_memory : (stop : CommandStop) (P : Type 0) → stop ≡ NoMemory → IfBroken P stop → P
-broken_by_memory stop P e h = subst (IfBroken P) e h
 
 pub first_broken : (c : Content) (old : StudyState) (commands : List StudyCommand) (kept held : Option (List Look)) (before now : ℕ) (rose : Type 0)
     (stop : CommandStop) (place : ℕ) (w : WideAt) → stop ≡ Wide place w → StopsCommands c rose 1 old commands kept held before now stop

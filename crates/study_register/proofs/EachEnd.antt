@@ -46,7 +46,8 @@ use Rattle.study_register.specs.declared.fault.RegisterFault.TheVariants.{BadLoo
 use Rattle.study_register.specs.Looking.{arrival_of, Takes, Follows, AreTaken}
 use Rattle.study_register.specs.RegisterFaults.{IsBadLook, IsFirstStop, IsStopped}
 use Rattle.study_register.specs.RegisterStatements.{EachLookEnds, EachOpeningEnds}
-use Rattle.study_register.proofs.TakenLooks.{opened_study, taken_study, taken_is_study}
+use Rattle.study_register.proofs.TakenLooks.{taken_study, taken_is_study}
+use Rattle.staged_levels.proofs.StateFacts.{start_study}
 
 -- ---- arrivals
 
@@ -345,7 +346,7 @@ module _ (c : Content) where
   ]
 
   -- looks that were taken lead to a state that is defined
-  follows_defined : (ls : List Look) (old new : StudyState) → IsDefined c old → Follows c old ls new → IsDefined c new
+  pub follows_defined : (ls : List Look) (old new : StudyState) → IsDefined c old → Follows c old ls new → IsDefined c new
   follows_defined [] old new D h = subst (IsDefined c) (sym h) D
   follows_defined (l ∷ ls) old new D h = follows_defined ls h.0 new h.1.1.is_defined h.2
 
@@ -357,7 +358,7 @@ each_look_ends c looks s l V T = look_ends c s (taken_is_study c V looks s T) (f
 -- a case that was opened
 opened_ends : (c : Content) (looks : List Look) → IsValidContent c → IsDefined c start
     → ((s : StudyState) × AreTaken c looks s) ⊎ ((why : RegisterFault) × IsStopped c looks why)
-opened_ends c looks V D = elim (follow_or_stop c looks start 1 (opened_study c V) D) [
+opened_ends c looks V D = elim (follow_or_stop c looks start 1 (start_study c V) D) [
   | inl s ↦ inl (s.0, record { opened = D; follows = s.1 })
   | inr f ↦ inr (f.0, record { opened = D; first = f.1 })
 ]

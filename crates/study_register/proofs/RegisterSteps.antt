@@ -83,10 +83,6 @@ pub opening_asked : (p : Type 0) (why : OpenFault) → IfAsked p (of_opening why
 opening_asked p (openings.Wide w) = tt
 opening_asked p openings.NoMemory = tt
 
--- where an opening refuses, the keeper isn't asked
-pub opening_steady : (p : Type 0) (why : OpenFault) → p → IfLooksRefused p (of_opening why)
-opening_steady p why h = refused_too p (of_opening why) h
-
 -- where an appending refuses, its count stays but by a fault
 appended_memory : (before now : ℕ) (why : KeeperFault) → CausedBy before now why → IfMemory (now ≡ before) (of_appending why)
 appended_memory before now keepers.Fault h = tt

@@ -18,6 +18,7 @@ use Rattle.staged_levels.proofs.StudyFacts.{study_decides, studies_agree}
 use Rattle.study_register.specs.Looking.{arrival_of, arrivals_of, Takes, Follows, AreTaken}
 use Rattle.study_register.specs.Replying.{Replied, look_in, looks_taken, IsReply, AreReplies}
 use Rattle.study_register.specs.RegisterStatements.{OneMoreIsTaken, RepliesAreTaken, TakenLooksDecide, OrdersOfLooksAgree}
+use Rattle.staged_levels.proofs.StateFacts.{start_study}
 
 -- ---- the values of looks
 
@@ -50,9 +51,6 @@ start_settled c k h = none h.passes.at.arrived
   where
     none : Contains [] h.passes.arrival → ⊥
     none (i, b, e) = absurd (omega arith)
-
-pub opened_study : (c : Content) → IsValidContent c → IsStudyOf c start
-opened_study c V = record { valid = V; values = tt; rejected = tt }
 
 module _ (c : Content) where
   pub taken_study : (old new : StudyState) (l : Look) → IsStudyOf c old → Takes c old l new → IsStudyOf c new
@@ -98,7 +96,7 @@ module _ (c : Content) where
 
   module _ (V : IsValidContent c) (looks : List Look) (s : StudyState) (T : AreTaken c looks s) where
     pub taken_is_study : IsStudyOf c s
-    taken_is_study = follows_study looks start s (opened_study c V) T.follows
+    taken_is_study = follows_study looks start s (start_study c V) T.follows
 
     taken_is_settled : IsSettled c s
     taken_is_settled = follows_settled looks start s (start_settled c) T.follows
