@@ -36,7 +36,7 @@ use Rattle.catalogue.proofs.AloneCases.{number_of-one, constant_value, no_edge_v
 
 -- ---- edges by their values
 
-none_value : entry_value (entry_or None) ≡ number_zero
+pub none_value : entry_value (entry_or None) ≡ number_zero
 none_value = ap entry_value entry_or-none ∙ no_edge_value
 
 some_value : (a : Ratio) → entry_value (entry_or (Some (constant a))) ≡ number_of a

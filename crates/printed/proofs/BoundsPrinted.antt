@@ -17,7 +17,7 @@ use Rattle.printed.specs.Bounds.{RejectsSet, IsClosedBoundIn, ClosedBoundsCountF
 use Rattle.printed.specs.Sets.{CountFalseMembers}
 use Rattle.printed.proofs.SetNumbers.{bounds_count}
 use Rattle.printed.proofs.SetsOnce.{sets_once}
-use Rattle.printed.proofs.SimesPrinted.{for_each}
+use Rattle.closed_test.proofs.SetAnswers.{for_single}
 
 module _ (c : Content) where
   abbrev m : ℕ
@@ -28,12 +28,12 @@ module _ (c : Content) where
   AreBounds bound ps = (n : ℕ) → n < 2 ^ m → IsBound m (RejectsSet c ps) (members n) (bound n)
 
   set_bound : (bound : ℕ → ℕ) (n : ℕ) → n < 2 ^ m → ForSingle c.inputs (AreBounds bound) → IsClosedBoundIn c (members n) (bound n)
-  set_bound bound n p h = for_each (AreBounds bound) (λ ps. IsBound m (RejectsSet c ps) (members n) (bound n)) (λ ps b. b n p) c.inputs h
+  set_bound bound n p h = for_single (AreBounds bound) (λ ps. IsBound m (RejectsSet c ps) (members n) (bound n)) (λ ps b. b n p) c.inputs h
 
   counts : (bound : ℕ → ℕ) → ForSingle c.inputs (AreBounds bound) → ClosedBoundsCountFalse c bound
   unfolding entangled
   counts bound h =
-      for_each (AreBounds bound) (λ ps. CountFalseMembers m (RejectsSet c ps) bound)
+      for_single (AreBounds bound) (λ ps. CountFalseMembers m (RejectsSet c ps) bound)
       (λ ps b. bounds_count m (IsLocallyRejected (entangled c) (number_at ps) (number_of c.alpha)) bound b) c.inputs h
 
 reported : (c : Content) (text : List ℕ) → ReportsBounds c text → ReportsSetBounds c text

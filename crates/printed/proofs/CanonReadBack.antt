@@ -1,7 +1,7 @@
 -- What `canon` prints is read as the case that was read, and as no other.
 use Rattle.std.proofs.Common.{◌≡◌, refl, sym, ap, subst, ◌∙◌, ℕ, List, Option, Some, true}
 use Rattle.field_core.specs.View.{terms}
-use Rattle.field_core.proofs.Results.{same_value}
+use Rattle.field_core.proofs.Results.{same_value, one_some}
 use Rattle.fraction.proofs.SameRatios.{same_ratio}
 use Rattle.serde_json.specs.Read.{read}
 use Rattle.answers.specs.declared.answer.Answer.{Answer}
@@ -10,7 +10,6 @@ use Rattle.answers.specs.Stages.{IsAnswerOf}
 use Rattle.case_csv.proofs.SheetCases.{sheets_read_back}
 use Rattle.case_csv.specs.Sheet.{sheet_text}
 use Rattle.case_csv.specs.Table.{cells_of, IsTable}
-use Rattle.case_json.proofs.OneReading.{same_some}
 use Rattle.case_json.proofs.WrittenCases.{reads_back}
 use Rattle.case_json.specs.Document.{document_of}
 use Rattle.case_json.specs.Written.{json_text}
@@ -43,7 +42,7 @@ one_draft (csv alpha) bytes d e h k =
     let same = same_ratio h.0 k.0 (h.1 ∙ sym k.1) in
     same_value d e (sym (subst (λ z. IsTable (cells_of bytes) z d) same h.2) ∙ k.2)
 one_draft json bytes d e h k =
-    same_value d e (sym h.2 ∙ ap document_of (same_some (read bytes) h.0 k.0 h.1.1 k.1.1) ∙ k.2)
+    same_value d e (sym h.2 ∙ ap document_of (one_some (read bytes) h.0 k.0 h.1.1 k.1.1) ∙ k.2)
 
 -- bytes say at most one case
 pub one_content : (form : Written) (bytes : List ℕ) (c d : Content) → (case_in form bytes).Gives c → (case_in form bytes).Gives d → c ≡ d

@@ -1,4 +1,5 @@
 -- The case of a named graph with a p-value for each hypothesis is a case.
+use Rattle.sequential.specs.OtherPValues.{with_p}
 use Rattle.std.proofs.Common.{◌≡◌, ap, subst, ◌∙◌, ℕ, zero, suc, ◌<◌, inr, List, [], ◌∷◌, length, map, slice_get}
 use Rattle.std.proofs.Common.{Some, None, arith}
 use Rattle.std.proofs.lemmas.List.{length-map}
@@ -16,7 +17,6 @@ use Rattle.catalogue.proofs.AloneCases.{inputs_are}
 use Rattle.catalogue.proofs.KnownEnds.{known_arrivals}
 use Rattle.catalogue.specs.WeightedGraphs.{WeightedGraph, names_of, draft_of}
 use Rattle.graph_cli.proofs.ClosedReports.{faultless_content}
-use Rattle.printed.specs.Catalogue.{with_p_values}
 
 -- ---- p-values
 
@@ -68,14 +68,14 @@ module _ (G : WeightedGraph) (alpha : Ratio) (ps : List Ratio) where
   unfolding draft_of
   some_names V = V.names.some
 
-  same_content : ¬ (ps ≡ []) → content_of (draft_of G alpha ps) ≡ with_p_values ps (content_of (draft_of G alpha []))
+  same_content : ¬ (ps ≡ []) → content_of (draft_of G alpha ps) ≡ with_p (content_of (draft_of G alpha [])) ps
   unfolding content_of draft_of
   same_content some =
       let c = content_of (draft_of G alpha []) in
       ap (λ i. record { names = c.names; alpha = c.alpha; components = c.components; inputs = i }) (inputs_are G alpha ps some)
 
   pub filled_case : case_fault (draft_of G alpha []) ≡ None → ArePValues (length (names_of G.size)) ps
-      → IsValidContent (with_p_values ps (content_of (draft_of G alpha [])))
+      → IsValidContent (with_p (content_of (draft_of G alpha [])) ps)
   filled_case none h =
       let V = valid_draft (draft_of G alpha []) none in
       let d = draft_of G alpha ps in

@@ -17,17 +17,16 @@ use Rattle.case_model.proofs.ValidGraphs.{number-zero}
 use Rattle.catalogue.specs.Makings.{made}
 use Rattle.catalogue.specs.NamedGraphs.{constant, part, gate_edge, parallel_graph}
 use Rattle.catalogue.specs.WeightedGraphs.{edge_with, edge_in, draft_of}
-use Rattle.catalogue.proofs.AloneCases.{plain_constant, constant_value, no_edge_value, alone, as_many, is_made}
-use Rattle.catalogue.proofs.FoundEdges.{entry_or, entry_or-none, entry_or-some}
+use Rattle.catalogue.proofs.AloneCases.{plain_constant, constant_value, alone, as_many, is_made}
+use Rattle.catalogue.proofs.FoundEdges.{entry_or, entry_or-some}
+use Rattle.catalogue.proofs.PlainCases.{plain_edge}
 use Rattle.catalogue.proofs.RatiosOf.{part_value}
+use Rattle.catalogue.proofs.Textbooks.{none_value}
 use Rattle.textbook.specs.Gatekeeping.{gatekeeping_graph, IsGatekeepingGraph}
 use Rattle.printed.proofs.NamedGraphs.{all_edges}
-use Rattle.printed.proofs.WholeDrafts.{plain_edge, plain_content}
+use Rattle.printed.proofs.WholeDrafts.{plain_content}
 
 -- ---- weights and edges by their values
-
-none_value : entry_value (entry_or None) ≡ number_zero
-none_value = ap entry_value entry_or-none ∙ no_edge_value
 
 part_edge : (n : ℕ) → 0 < n → n < 2 ^ 127 → entry_value (entry_or (Some (constant (part n)))) ≡ one_over n
 part_edge n some few = ap entry_value (entry_or-some (constant (part n))) ∙ constant_value (part n) ∙ part_value n some few

@@ -1,4 +1,5 @@
 -- The cases of named graphs: they have whole entries, and on them the closed test decides as the rules.
+use Rattle.sequential.specs.OtherPValues.{with_p}
 use Rattle.std.proofs.Common.{◌≡◌, refl, ap, subst, ◌∙◌, ℕ, suc, ◌+◌, ◌-◌, ◌%◌, ◌==◌, ◌&&◌, Bool, true, false, cond}
 use Rattle.std.proofs.Common.{List, [], length, Option, Some, None, Result, Ok, negsuc, arith}
 use Rattle.std.specs.Prelude.{nat_lt}
@@ -24,7 +25,7 @@ use Rattle.command_words.specs.declared.graph_name.SizedGraph.{SizedGraph}
 use Rattle.command_words.specs.declared.graph_name.SizedGraph.TheVariants.{Holm, FixedSequence, Fallback, Parallel, ImprovedParallel}
 use Rattle.graph_cli.proofs.ClosedReports.{faultless_content}
 use Rattle.graph_cli.specs.Graphs.{named_case}
-use Rattle.printed.specs.Catalogue.{graph_size, with_p_values}
+use Rattle.printed.specs.Catalogue.{graph_size}
 use Rattle.printed.proofs.FilledCases.{filled_case}
 use Rattle.printed.proofs.WholeDrafts.{whole_edge, IsWhole, whole_content}
 
@@ -105,7 +106,7 @@ pub record IsOfGraph (G : WeightedGraph) (alpha : Ratio) (c : Content) : Type 0 
   pub names : c.names ≡ names_of G.size
   pub level : c.alpha ≡ alpha
   pub bare : c.inputs ≡ Bare
-  pub filled : (ps : List Ratio) → ArePValues (length c.names) ps → IsValidContent (with_p_values ps c)
+  pub filled : (ps : List Ratio) → ArePValues (length c.names) ps → IsValidContent (with_p c ps)
 
 module _ (G : WeightedGraph) (alpha : Ratio) where
   names_are : (content_of (draft_of G alpha [])).names ≡ names_of G.size
@@ -140,7 +141,7 @@ pub record IsNamedCase (n : ℕ) (c : Content) : Type 0 where
   pub names : c.names ≡ names_of n
   pub level : c.alpha ≡ part 20
   pub bare : c.inputs ≡ Bare
-  pub filled : (ps : List Ratio) → ArePValues (length c.names) ps → IsValidContent (with_p_values ps c)
+  pub filled : (ps : List Ratio) → ArePValues (length c.names) ps → IsValidContent (with_p c ps)
 
 named : (G : WeightedGraph) (n : ℕ) (fault : Option CatalogueFault) (c : Content) → G.size ≡ n → ((i j : ℕ) → IsWholeEdge (G.edge i j))
     → behind fault (made (draft_of G (part 20) [])) ≡ Ok c → IsNamedCase n c

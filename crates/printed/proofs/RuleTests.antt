@@ -14,6 +14,7 @@ use Rattle.command_words.specs.Asked.{Written, on_case}
 use Rattle.command_words.specs.declared.command.CaseTask.TheVariants.{Test}
 use Rattle.command_words.specs.Words.{asked_in}
 use Rattle.command_words.proofs.Readings.{stage_decided}
+use Rattle.sequential.specs.OtherPValues.{with_p}
 use Rattle.sequential.specs.declared.priority.Priority.{Priority}
 use Rattle.textbook.specs.DefinedDecisions.{IsNeverWide}
 use Rattle.graph_cli.proofs.AcceptedCases.{accepted_decided}
@@ -25,7 +26,7 @@ use Rattle.graph_cli.specs.Outcome.{AskFor, outcome}
 use Rattle.graph_cli.specs.Test.{test_stage}
 use Rattle.graph_cli.specs.declared.kind.InputKind.TheVariants.{Single}
 use Rattle.graph_cli.specs.declared.trouble.Trouble.{Trouble}
-use Rattle.printed.specs.Catalogue.{with_p_values, IsTestedBy, DecidesBy}
+use Rattle.printed.specs.Catalogue.{IsTestedBy, DecidesBy}
 use Rattle.printed.specs.Rules.{ReportsRule}
 use Rattle.printed.proofs.CanonReadBack.{one_content}
 
@@ -100,11 +101,11 @@ module _ (Rejects : ℕ → Type 0) (c : Content) (ps : List Ratio) (single : c.
 -- ---- a case without p-values, by whatever p-values
 
 module _ (Rejects : (ℕ → Number) → ℕ → Type 0) (c : Content) (few : length c.names ≤ 64)
-    (rejects : (ps : List Ratio) → ArePValues (length c.names) ps → (j : ℕ) → IsRejectedIn (with_p_values ps c) j ↔ Rejects (number_at ps) j)
-    (never_wide : (ps : List Ratio) → ArePValues (length c.names) ps → IsNeverWide (with_p_values ps c)) where
+    (rejects : (ps : List Ratio) → ArePValues (length c.names) ps → (j : ℕ) → IsRejectedIn (with_p c ps) j ↔ Rejects (number_at ps) j)
+    (never_wide : (ps : List Ratio) → ArePValues (length c.names) ps → IsNeverWide (with_p c ps)) where
   tested_by : IsTestedBy Rejects c
   tested_by words form priority bytes proof ps a P g within asks h =
-      tested (Rejects (number_at ps)) (with_p_values ps c) ps refl few (rejects ps P) (never_wide ps P) words form priority bytes proof a g within asks h
+      tested (Rejects (number_at ps)) (with_p c ps) ps refl few (rejects ps P) (never_wide ps P) words form priority bytes proof a g within asks h
 
   pub decides_by : DecidesBy Rejects c
   decides_by = record { rejects = rejects; never_wide = never_wide; tested = tested_by }

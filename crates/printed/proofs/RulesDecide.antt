@@ -35,38 +35,39 @@ use Rattle.catalogue.specs.NamedGraphs.{part, holm_graph, sequence_graph, fallba
 use Rattle.catalogue.specs.Sizes.{size_fault, sizes_fault}
 use Rattle.catalogue.specs.WeightedGraphs.{draft_of, name_of}
 use Rattle.catalogue.specs.declared.fault.CatalogueFault.TheVariants.{Size}
+use Rattle.sequential.specs.OtherPValues.{with_p}
 use Rattle.command_words.specs.declared.graph_name.SizedGraph.{SizedGraph}
 use Rattle.command_words.specs.declared.graph_name.SizedGraph.TheVariants.{Holm, FixedSequence, Fallback, Parallel, ImprovedParallel}
 use Rattle.graph_cli.specs.Graphs.{named_case}
 use Rattle.textbook.specs.Gatekeeping.{IsGatekeepingGraph, IsGatekeepingRejected}
 use Rattle.textbook.proofs.GateOrders.{gatekeeping_decides}
 use Rattle.textbook.proofs.NeverWide.{holm_decisions, sequence_decisions, fallback_decisions, gatekeeping_decisions}
-use Rattle.printed.specs.Catalogue.{graph_size, twentieth, with_p_values, HasItsRule}
+use Rattle.printed.specs.Catalogue.{graph_size, twentieth, HasItsRule}
 use Rattle.printed.proofs.GateCases.{parallel_made, parallel_plain}
 use Rattle.printed.proofs.RuleTests.{decides_by}
 use Rattle.printed.proofs.NamedGraphs.{IsNamedCase, behind_is}
 
 -- ---- the case with p-values
 
-module _ (c : Content) (ps : List Ratio) (V : IsValidContent (with_p_values ps c)) where
-  same_graph : entangled (with_p_values ps c) ≡ entangled c
+module _ (c : Content) (ps : List Ratio) (V : IsValidContent (with_p c ps)) where
+  same_graph : entangled (with_p c ps) ≡ entangled c
   unfolding entangled
   same_graph = refl
 
-  same_plain : is_plain c ≡ true → is_plain (with_p_values ps c) ≡ true
+  same_plain : is_plain c ≡ true → is_plain (with_p c ps) ≡ true
   unfolding is_plain
   same_plain h = h
 
   graph_valid : IsValidEntangled (entangled c)
-  graph_valid = subst IsValidEntangled same_graph (valid_content (with_p_values ps c) V)
+  graph_valid = subst IsValidEntangled same_graph (valid_content (with_p c ps) V)
 
   low : number_zero ≤ε number_of c.alpha
-  low = subst (λ z. z ≤ε number_of c.alpha) field_zero (good_level c.alpha (shape (with_p_values ps c) V).level).nonneg
+  low = subst (λ z. z ≤ε number_of c.alpha) field_zero (good_level c.alpha (shape (with_p c ps) V).level).nonneg
 
   -- what a rule decides on the graph at the level of the case, it decides at 1/20
   carried : (Rule : Number → ℕ → ℕ → Type 0) (n : ℕ) → (entangled c).hypotheses ≡ n → number_of c.alpha ≡ twentieth
       → ((j : ℕ) → IsRejected (entangled c) (number_at ps) (number_of c.alpha) j ↔ Rule (number_of c.alpha) (entangled c).hypotheses j)
-      → (j : ℕ) → IsRejectedIn (with_p_values ps c) j ↔ Rule twentieth n j
+      → (j : ℕ) → IsRejectedIn (with_p c ps) j ↔ Rule twentieth n j
   carried Rule n size level law j =
       let rejected = IsRejected (entangled c) (number_at ps) (number_of c.alpha) j in
       subst (λ E. IsRejected E (number_at ps) (number_of c.alpha) j ↔ Rule twentieth n j) (sym same_graph)
@@ -108,7 +109,7 @@ module _ (n : ℕ) (c : Content) (N : IsNamedCase n c) where
             (λ ps P. let V = N.filled ps P in carried c ps V (λ l k j. IsHolmRejected (number_at ps) l k j) n size_is level_is
             (holm_decides (number_at ps) (number_of c.alpha) (entangled c) (graph_valid c ps V) A (low c ps V)))
             (λ ps P. let V = N.filled ps P in
-            holm_decisions (with_p_values ps c) V (same_plain c ps V plain) (subst IsHolmGraph (sym (same_graph c ps V)) A)),
+            holm_decisions (with_p c ps) V (same_plain c ps V plain) (subst IsHolmGraph (sym (same_graph c ps V)) A)),
       )
 
   -- ---- fixed sequence
@@ -125,7 +126,7 @@ module _ (n : ℕ) (c : Content) (N : IsNamedCase n c) where
             (λ ps P. let V = N.filled ps P in carried c ps V (λ l k j. IsSequenceRejected (number_at ps) l k j) n size_is level_is
             (sequence_decides (number_at ps) (number_of c.alpha) (entangled c) (graph_valid c ps V) A (low c ps V)))
             (λ ps P. let V = N.filled ps P in
-            sequence_decisions (with_p_values ps c) V (same_plain c ps V plain) (subst IsSequenceGraph (sym (same_graph c ps V)) A)),
+            sequence_decisions (with_p c ps) V (same_plain c ps V plain) (subst IsSequenceGraph (sym (same_graph c ps V)) A)),
       )
 
   -- ---- fallback with equal weights
@@ -161,7 +162,7 @@ module _ (n : ℕ) (c : Content) (N : IsNamedCase n c) where
             (fallback_decides (number_at ps) (number_of c.alpha) (λ i. one_over n) (entangled c) (graph_valid c ps V) A
             (λ i p. limit-fraction (pos 1) (pos n) (λ e. omega (arith, ints, within.0))) (low c ps V)))
             (λ ps P. let V = N.filled ps P in
-            fallback_decisions (with_p_values ps c) (λ i. 1) d V (same_plain c ps V plain) (omega (arith, within.1))
+            fallback_decisions (with_p c ps) (λ i. 1) d V (same_plain c ps V plain) (omega (arith, within.1))
             (subst (IsFallbackGraph (λ i. fraction (pos 1) (pos (suc d)))) (sym (same_graph c ps V))
             (subst (λ k. IsFallbackGraph (λ i. fraction (pos 1) (pos k)) (entangled c)) next A))),
       )
@@ -181,7 +182,7 @@ parallel_rule a b c N h =
           carried c ps V (λ l k j. IsGatekeepingRejected (number_at ps) l a b j) (a + b) (size_is (a + b) c N) (level_is (a + b) c N)
           (gatekeeping_decides (number_at ps) (number_of c.alpha) a b (entangled c) (graph_valid c ps V) A (low c ps V)))
           (λ ps P. let V = N.filled ps P in
-          gatekeeping_decisions (with_p_values ps c) a b V (same_plain c ps V plain) (subst (IsGatekeepingGraph a b) (sym (same_graph c ps V)) A)),
+          gatekeeping_decisions (with_p c ps) a b V (same_plain c ps V plain) (subst (IsGatekeepingGraph a b) (sym (same_graph c ps V)) A)),
     )
   where
     few_families : (a b : ℕ) (c : Content) → IsNamedCase (a + b) c → a + b ≤ 64

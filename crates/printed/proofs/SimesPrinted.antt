@@ -25,12 +25,7 @@ use Rattle.printed.specs.Sets.{CountFalseMembers}
 use Rattle.printed.specs.Simes.{SimesRejectsSet, IsSimesRejectedIn, IsSimesBoundIn, SimesBoundsCountFalse, ReportsSimesTest, SimesReportsAreOfTheSimesTest}
 use Rattle.printed.proofs.SetNumbers.{bounds_count, bound_of_set}
 use Rattle.printed.proofs.SetsOnce.{sets_once}
-
--- a fact of single p-values follows from others of them
-pub for_each : (P Q : List Ratio → Type 0) → ((ps : List Ratio) → P ps → Q ps) → (i : Inputs) → ForSingle i P → ForSingle i Q
-for_each P Q step (Single ps) h = step ps h
-for_each P Q step Bare h = absurd h
-for_each P Q step (Staged stages) h = absurd h
+use Rattle.closed_test.proofs.SetAnswers.{for_single}
 
 -- so does an equivalence
 for_either : (P Q : List Ratio → Type 0) (R : Type 0) → ((ps : List Ratio) → P ps → R ↔ Q ps) → (i : Inputs) → ForSingle i P → R ↔ ForSingle i Q
@@ -62,17 +57,17 @@ module _ (c : Content) where
   AreBounds bound ps = (n : ℕ) → n < 2 ^ m → IsBound m (SimesRejectsSet c ps) (members n) (bound n)
 
   set_bound : (bound : ℕ → ℕ) (n : ℕ) → n < 2 ^ m → ForSingle c.inputs (AreBounds bound) → IsSimesBoundIn c (members n) (bound n)
-  set_bound bound n p h = for_each (AreBounds bound) (λ ps. IsBound m (SimesRejectsSet c ps) (members n) (bound n)) (λ ps b. b n p) c.inputs h
+  set_bound bound n p h = for_single (AreBounds bound) (λ ps. IsBound m (SimesRejectsSet c ps) (members n) (bound n)) (λ ps b. b n p) c.inputs h
 
   top_bound : (bound : ℕ → ℕ) (js : List ℕ) → ForSingle c.inputs (AreBounds bound) → IsSimesBoundIn c (set_of js) (bound (set_number m (set_of js)))
   unfolding entangled
   top_bound bound js h =
-      for_each (AreBounds bound) (λ ps. IsBound m (SimesRejectsSet c ps) (set_of js) (bound (set_number m (set_of js))))
+      for_single (AreBounds bound) (λ ps. IsBound m (SimesRejectsSet c ps) (set_of js) (bound (set_number m (set_of js))))
       (λ ps b. bound_of_set m (Local ps) bound b (set_of js)) c.inputs h
 
   counts : (bound : ℕ → ℕ) → ForSingle c.inputs (AreBounds bound) → SimesBoundsCountFalse c bound
   unfolding entangled
-  counts bound h = for_each (AreBounds bound) (λ ps. CountFalseMembers m (SimesRejectsSet c ps) bound) (λ ps b. bounds_count m (Local ps) bound b) c.inputs h
+  counts bound h = for_single (AreBounds bound) (λ ps. CountFalseMembers m (SimesRejectsSet c ps) bound) (λ ps b. bounds_count m (Local ps) bound b) c.inputs h
 
 reported : (c : Content) (text : List ℕ) → ReportsSimes c text → ReportsSimesTest c text
 reported c text r = record {

@@ -13,13 +13,14 @@ use Rattle.case_model.specs.Sums.{number_at}
 use Rattle.case_model.specs.TextbookGraphs.{IsHolmGraph, IsSequenceGraph, IsFallbackGraph}
 use Rattle.case_model.specs.TextbookRules.{IsHolmRejected, IsSequenceRejected, IsFallbackRejected}
 use Rattle.case_model.specs.Validity.{IsValidContent}
-use Rattle.case_model.specs.declared.inputs.Inputs.TheVariants.{Bare, Single}
+use Rattle.case_model.specs.declared.inputs.Inputs.TheVariants.{Bare}
 use Rattle.catalogue.specs.WeightedGraphs.{names_of}
 use Rattle.command_words.specs.Asked.{Written, on_case, catalogue}
 use Rattle.command_words.specs.declared.command.CaseTask.TheVariants.{Test}
 use Rattle.command_words.specs.declared.form.Form.TheVariants.{Text}
 use Rattle.command_words.specs.declared.graph_name.SizedGraph.{SizedGraph}
 use Rattle.command_words.specs.declared.graph_name.SizedGraph.TheVariants.{Holm, FixedSequence, Fallback, Parallel, ImprovedParallel}
+use Rattle.sequential.specs.OtherPValues.{with_p}
 use Rattle.sequential.specs.declared.priority.Priority.{Priority}
 use Rattle.textbook.specs.DefinedDecisions.{IsNeverWide}
 use Rattle.textbook.specs.Gatekeeping.{IsGatekeepingGraph, IsGatekeepingRejected}
@@ -41,22 +42,18 @@ graph_size (ImprovedParallel a b) = a + b
 abbrev pub twentieth : Number
 twentieth = one_over 20
 
--- the case with these p-values in place of its own
-abbrev pub with_p_values : List Ratio → Content → Content
-with_p_values ps c = record { names = c.names; alpha = c.alpha; components = c.components; inputs = Single ps }
-
 -- Bytes say the case with p-values, in whatever form, and aren't more than an input may have. Then what words that ask for `test` are answered has
 -- the status 0, by any priority, and reports the rule.
 abbrev pub IsTestedBy : ((ℕ → Number) → ℕ → Type 0) → Content → Type 0
 IsTestedBy Rejects c = (words : List (List ℕ)) (form : Written) (priority : Priority) (bytes : List ℕ) (proof : Option (List ℕ)) (ps : List Ratio)
-    (a : Answer) → ArePValues (length c.names) ps → (case_in form bytes).Gives (with_p_values ps c) → length bytes ≤ most_bytes
+    (a : Answer) → ArePValues (length c.names) ps → (case_in form bytes).Gives (with_p c ps) → length bytes ≤ most_bytes
     → AskFor words (on_case form (Test priority)) → IsAnswerOf (outcome words (Some bytes) proof) a
-    → (a.status ≡ Done) × ReportsRule (Rejects (number_at ps)) priority (with_p_values ps c) a.text
+    → (a.status ≡ Done) × ReportsRule (Rejects (number_at ps)) priority (with_p c ps) a.text
 
 -- By whatever p-values, one for each hypothesis, the closed test rejects exactly what a rule rejects, nothing is too wide, and `test` reports the rule.
 pub record DecidesBy (Rejects : (ℕ → Number) → ℕ → Type 0) (c : Content) : Type 0 where
-  pub rejects : (ps : List Ratio) → ArePValues (length c.names) ps → (j : ℕ) → IsRejectedIn (with_p_values ps c) j ↔ Rejects (number_at ps) j
-  pub never_wide : (ps : List Ratio) → ArePValues (length c.names) ps → IsNeverWide (with_p_values ps c)
+  pub rejects : (ps : List Ratio) → ArePValues (length c.names) ps → (j : ℕ) → IsRejectedIn (with_p c ps) j ↔ Rejects (number_at ps) j
+  pub never_wide : (ps : List Ratio) → ArePValues (length c.names) ps → IsNeverWide (with_p c ps)
   pub tested : IsTestedBy Rejects c
 
 -- The case has the graph of the textbooks, and is decided by their rule at the level 1/20. Fallback has equal weights. Improved parallel gatekeeping has no
@@ -77,7 +74,7 @@ pub record PrintsNamedGraph (graph : SizedGraph) (printed : List ℕ) : Type 0 w
   pub names : case.names ≡ names_of (graph_size graph)
   pub level : number_of case.alpha ≡ twentieth
   pub bare : case.inputs ≡ Bare
-  pub filled : (ps : List Ratio) → ArePValues (length case.names) ps → IsValidContent (with_p_values ps case)
+  pub filled : (ps : List Ratio) → ArePValues (length case.names) ps → IsValidContent (with_p case ps)
   pub rule : HasItsRule graph case
 
 -- what words that ask for `catalogue` are answered with status 0 is read as the case of the named graph
