@@ -1,18 +1,14 @@
 -- The laws of adjusted values, as contracts name them.
-use Rattle.std.specs.Prelude.{◌≡◌, ◌↔◌, ℕ, Bool, true, false, pos}
+use Rattle.std.specs.Prelude.{◌≡◌, ◌↔◌, ℕ, Bool, true, false}
 use Rattle.field_core.specs.Number.{Number}
-use Rattle.field_core.specs.Arithmetic.{number_zero, number_one}
+use Rattle.field_core.specs.Arithmetic.{number_one}
 use Rattle.field_core.specs.Order.{◌≤ε◌}
-use Rattle.field_core.specs.Fractions.{fraction}
-use Rattle.field_core.specs.NumberField.{number_field}
-use Rattle.field_core.specs.Examples.{graph_without_edges}
 use Rattle.field_core.specs.LimitParts.{IsUnit}
 use Rattle.field_core.specs.declared.ratio.Ratio.{Ratio}
 use Rattle.fraction.specs.View.{number_of}
 use Rattle.case_model.specs.EntangledGraph.{EntangledGraph}
 use Rattle.case_model.specs.ClosedTest.{IsRejected}
-use Rattle.case_model.specs.ClosedTestExamples.{alone, two_halves, twentieth, near_half}
-use Rattle.case_model.specs.AdjustedValues.{IsLeastLevel, IsNeverRejected, IsAdjusted}
+use Rattle.case_model.specs.AdjustedValues.{IsAdjusted}
 
 -- at each level from 0 to 1 the closed test rejects `j` exactly if the value is reached and is at most the level
 abbrev pub Decides : EntangledGraph → (ℕ → Number) → ℕ → Ratio → Bool → Type 0
@@ -33,11 +29,3 @@ abbrev pub AdjustedValuesAreUnique : Type 0
 AdjustedValuesAreUnique =
     (E : EntangledGraph) (p : ℕ → Number) (j : ℕ) (value other : Ratio) (reached found : Bool)
     → IsAdjusted E p j value reached → IsAdjusted E p j other found → (value ≡ other) × (reached ≡ found)
-
--- Of two hypotheses of weight 1/2, with the p-values 1/40 and 13/500, the least levels are 1/20 and 13/250.
-abbrev pub LeastLevelsOfTwoHalves : Type 0
-LeastLevelsOfTwoHalves = IsLeastLevel two_halves near_half 0 twentieth × IsLeastLevel two_halves near_half 1 (fraction (pos 13) (pos 250))
-
--- Without weights no hypothesis is ever rejected, even if all p-values are 0.
-abbrev pub WeightZeroIsNeverRejected : Type 0
-WeightZeroIsNeverRejected = (m j : ℕ) → IsNeverRejected (alone m (graph_without_edges number_field (λ _. number_zero))) (λ _. number_zero) j

@@ -1,9 +1,9 @@
 -- The laws of bounds, and the law by which a table of the closed test is filled, as contracts name them.
-use Rattle.std.specs.Prelude.{◌≡◌, ◌<◌, ◌≤◌, ◌+◌, ◌==◌, ◌↔◌, ℕ, Bool, false}
+use Rattle.std.specs.Prelude.{◌≡◌, ◌<◌, ◌≤◌, ◌+◌, ◌↔◌, ℕ, Bool, false}
 use Rattle.field_core.specs.Number.{Number}
-use Rattle.field_core.specs.Sets.{IsSubset, adding, whole, size_of}
+use Rattle.field_core.specs.Sets.{IsSubset, adding, size_of}
 use Rattle.case_model.specs.EntangledGraph.{EntangledGraph}
-use Rattle.case_model.specs.ClosedTest.{only, IsLocallyRejected, IsClosedRejected}
+use Rattle.case_model.specs.ClosedTest.{IsLocallyRejected, IsClosedRejected}
 use Rattle.case_model.specs.SetAnswers.{SaysYes, AnswersFor}
 use Rattle.case_model.specs.DiscoveryBound.{IsBound}
 
@@ -37,11 +37,3 @@ abbrev pub LargeSubsetsAreRejected : Type 0
 LargeSubsetsAreRejected =
     (m : ℕ) (table : ℕ → Bool) (S : ℕ → Bool) (b : ℕ) → IsBound m (SaysYes m table) S b
     → (b ≤ size_of m S) × ((K : ℕ → Bool) → IsSubset m K S → size_of m S < b + size_of m K → SaysYes m table K)
-
--- the table for two hypotheses that says yes of both together alone
-abbrev pub only_both : ℕ → Bool
-only_both n = n == 3
-
--- Of two hypotheses that are rejected only both together, one is a true discovery, and of neither of them alone it can be said.
-abbrev pub BoundsOfTwo : Type 0
-BoundsOfTwo = IsBound 2 (SaysYes 2 only_both) whole 1 × IsBound 2 (SaysYes 2 only_both) (only 0) 0 × IsBound 2 (SaysYes 2 only_both) (only 1) 0

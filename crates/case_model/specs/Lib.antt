@@ -7,7 +7,6 @@ pub mod CaseTestStatements
 pub mod CaseTests
 pub mod CaseView
 pub mod ClosedTest
-pub mod ClosedTestExamples
 pub mod ClosedTestStatements
 pub mod Content
 pub mod DiscoveryBound
@@ -30,6 +29,5 @@ pub mod Sums
 pub mod Tables
 pub mod TextbookGraphs
 pub mod TextbookRules
-pub mod TextbookStatements
 pub mod ValidDraft
 pub mod Validity

@@ -3,18 +3,9 @@
 
 pub mod adjusted;
 pub mod bounds;
-pub mod rules;
 pub mod staged;
 
 ghost use Rattle.case_model.specs.CaseStatements.{EntangledGraphsAreValid};
-ghost use Rattle.case_model.specs.ClosedTestExamples.{
-  HalvesAreValid,
-  OnlyFirstHalfIsRejected,
-  BothLinkedHalvesAreRejected,
-  WeightZeroRejectsNothing,
-  AlikeAreTakenByPosition,
-  LeastRatioIsTakenFirst,
-};
 ghost use Rattle.case_model.specs.ClosedTestStatements.{
   SetsAreRejectedByTheirSupersets,
   HypothesesAreRejectedByTheirSets,
@@ -112,20 +103,4 @@ pub fn priority_orders_exist()
     ensures one_first { FirstOrdersAreUnique }
     ensures one_last { LastOrdersAreUnique }
     ensures one_ratio { RatioOrdersAreUnique }
-{}
-
-/// What the closed test rejects of one or two hypotheses: facts that show what the definitions say.
-#[tactic(auto, using(crate::proofs::ExampleTests::small_tests))]
-pub fn small_closed_tests()
-    ensures valid { HalvesAreValid }
-    ensures apart { OnlyFirstHalfIsRejected }
-    ensures linked { BothLinkedHalvesAreRejected }
-    ensures weight_zero { WeightZeroRejectsNothing }
-{}
-
-/// The orders of the three priorities of two hypotheses.
-#[tactic(auto, using(crate::proofs::ExampleOrders::alike_by_position, crate::proofs::ExampleOrders::least_ratio_first))]
-pub fn orders_of_two_hypotheses()
-    ensures alike { AlikeAreTakenByPosition }
-    ensures ratio { LeastRatioIsTakenFirst }
 {}

@@ -8,8 +8,8 @@
 //! - A valid draft by what holds of it, apart from the order of the tests, and the law `faultless_drafts_are_valid`. By it a
 //!   draft has no fault exactly if it is valid and its written sums are defined.
 //! - More definitions with laws (`src/laws/`): least rejecting levels, bounds on true discoveries over any table, and the
-//!   staged test with its spends. The textbook rules (Holm, fixed sequence, fallback) decide as the closed test on their graphs
-//!   does.
+//!   staged test with its spends. The textbook rules (Holm, fixed sequence, fallback) and their graphs; the laws on them are in
+//!   textbook.
 //! - `Draft::finish`: `case` (an accepted draft is kept as it is, with its edges in tables). `faultless` and `fault`: it is
 //!   accepted only without a fault, and refused with the first fault of `case_fault`, or when out of memory. `names`: a refusal
 //!   gives the names back. `Draft::has_known_ends`, `has_known_arrivals`.

@@ -1,3 +1,7 @@
 pub mod DefinedDecisions
 pub mod TextbookRuns
+pub mod TextbookStatements
 pub mod Gatekeeping
+pub mod Examples
+pub mod ExampleStatements
+pub mod ClosedTestExamples

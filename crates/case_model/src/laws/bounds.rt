@@ -6,7 +6,6 @@ ghost use Rattle.case_model.specs.BoundStatements.{
   BoundsAreUnique,
   ClosedTablesGiveClosedBounds,
   LargeSubsetsAreRejected,
-  BoundsOfTwo,
 };
 
 /// The closed test rejects a set exactly if the local test rejects it and the closed test rejects it with any one hypothesis
@@ -22,8 +21,7 @@ pub fn bounds_exist()
     ensures closed { ClosedTablesGiveClosedBounds }
 {}
 
-/// What a bound says of subsets, and the bounds of two hypotheses.
+/// What a bound says of subsets.
 pub fn bounds_count_true_discoveries()
-    ensures subsets { LargeSubsetsAreRejected }
-    ensures two { BoundsOfTwo }
+    ensures { LargeSubsetsAreRejected }
 {}

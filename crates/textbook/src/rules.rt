@@ -1,0 +1,34 @@
+//! The closed test on the graphs of textbook rules.
+
+ghost use Rattle.textbook.specs.TextbookStatements.{
+  PositionsAreAscending,
+  HasOneHolmNumber,
+  FallbackGraphsDecideAsFallback,
+  SequenceGraphsDecideAsSequence,
+  HolmGraphsDecideAsHolm,
+  FallbackGraphsAreValid,
+  SequenceGraphsAreValid,
+  HolmGraphsAreValid,
+};
+
+/// On the graphs of Holm, of the fixed sequence and of fallback, the closed test rejects exactly what the rule rejects,
+/// at each level from 0 to 1.
+pub fn textbook_graphs_decide_as_rules()
+    ensures fallback { FallbackGraphsDecideAsFallback }
+    ensures sequence { SequenceGraphsDecideAsSequence }
+    ensures holm { HolmGraphsDecideAsHolm }
+{}
+
+/// Graphs with the weights of fallback, that of the fixed sequence and that of Holm are valid.
+pub fn textbook_graphs_are_valid()
+    ensures fallback { FallbackGraphsAreValid }
+    ensures sequence { SequenceGraphsAreValid }
+    ensures holm { HolmGraphsAreValid }
+{}
+
+/// The positions by ascending p-value are all positions, in this order, ties by position; and there is exactly one number of
+/// them that Holm's rule rejects.
+pub fn holm_numbers_exist()
+    ensures order { PositionsAreAscending }
+    ensures number { HasOneHolmNumber }
+{}
