@@ -17,7 +17,7 @@ use Rattle.case_model.proofs.ValidDrafts.{early_none, late_none}
 use Rattle.case_model.specs.CaseTests.{at_level, IsUnstaged}
 
 abbrev pub draft_at : Draft → Ratio → Draft
-draft_at d a = record { names = d.names; alpha = a; p = d.p; components = d.components; stages = d.stages }
+draft_at d a = record d { alpha = a }
 
 -- a test that passes finds nothing
 unless_passed : (b : Bool) (f : CaseFault) → b ≡ true → (f when not b) ≡ None

@@ -13,7 +13,7 @@ IsAdjustedIn c j value reached = ForSingle c.inputs (λ ps. IsAdjusted (entangle
 
 -- the same case at the level `a`
 abbrev pub at_level : Content → Ratio → Content
-at_level c a = record { names = c.names; alpha = a; components = c.components; inputs = c.inputs }
+at_level c a = record c { alpha = a }
 
 -- there are no stages
 abbrev pub IsUnstaged : Inputs → Type 0

@@ -9,7 +9,7 @@ use Rattle.sequential.specs.Trials.{TrialContent, IsTrialOf}
 
 -- the same case with these p-values in place of those that it has, single ones or those of stages
 abbrev pub with_p : Content → List Ratio → Content
-with_p c ps = record { names = c.names; alpha = c.alpha; components = c.components; inputs = Single ps }
+with_p c ps = record c { inputs = Single ps }
 
 -- A case is one with other p-values still, if there is one for each hypothesis.
 abbrev pub CasesAreValidWithOtherPValues : Type 0
