@@ -3,13 +3,15 @@ ghost use Rattle.std.specs.Prelude.{◌≡◌, map, length};
 ghost use Rattle.field_core.specs.View.{terms};
 ghost use Rattle.entangled.specs.Bundled.{IsBundle};
 
-use crate::OpenFault;
 use crate::all_nets::{commit_all, prepare_all, set_all};
 use crate::levels::{levels, write_next_levels};
-use field_core::{List, WideAt};
+use field_core::{Fault, List, WideAt};
 use fraction::Fraction;
 use removal::Remover;
 use std::alloc::Global;
+
+/// Why nothing was opened: a written operation of the opening has a part past its size, or memory is out.
+pub type OpenFault = Fault<WideAt>;
 
 /// Several nets over one set of hypotheses, each with its share of the level.
 ///
@@ -36,7 +38,7 @@ impl<R: Remover + Drop> Bundle<R> {
     ghost use Rattle.entangled.specs.Shares.{AreShares};
     ghost use Rattle.entangled.specs.Bundled.{states_size, opened};
     ghost use Rattle.entangled.specs.BundleView.{bundled};
-    ghost use Rattle.entangled.specs.Opening.{Opens};
+    ghost use Rattle.field_core.specs.Made.{Makes};
 
     /// Returns the bundle of these nets, in each of which all hypotheses remain, with these shares. There is at least one net,
     /// all are of one size, and each has a share; the shares aren't below 0 and sum to at most 1.
@@ -52,7 +54,7 @@ impl<R: Remover + Drop> Bundle<R> {
         requires size { All (λ s. graph_size (R.graph s) ≡ states_size R.graph (map R.present nets)) (map R.present nets) }
         requires live { All (λ s. AreAllLive (R.graph s)) (map R.present nets) }
         requires shares { AreShares shares.now }
-        ensures { Opens bundled result (opened R.Value.kind R.graph (map R.present nets) shares.now) }
+        ensures { Makes bundled result (opened R.Value.kind R.graph (map R.present nets) shares.now) }
     {
         let nets = nets.into_vec();
         let shares = Vec::from_slice(alloc, shares)?;

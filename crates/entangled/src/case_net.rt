@@ -3,7 +3,7 @@ ghost use Rattle.case_model.specs.CaseView.{content};
 ghost use Rattle.case_numbers.specs.Numbers.{CanRunIn, in_fractions, in_quotients};
 ghost use Rattle.entangled.specs.BundleView.{bundled};
 ghost use Rattle.entangled.specs.CaseRun.{opening_in};
-ghost use Rattle.entangled.specs.Opening.{Opens};
+ghost use Rattle.field_core.specs.Made.{Makes};
 
 use crate::loading::{bundle, nets};
 use crate::{Bundle, OpenFault};
@@ -27,7 +27,7 @@ pub enum CaseNet {
 #[tactic(auto, unfolding(crate::specs::CaseRun::opening_in))]
 fn plain_bundle(alloc: Global, case: &Case) -> Result<Bundle<Net<Fraction>>, OpenFault>
     requires { CanRunIn in_fractions (content case.now) }
-    ensures { Opens bundled result (opening_in in_fractions (content case.now)) }
+    ensures { Makes bundled result (opening_in in_fractions (content case.now)) }
 {
     let nets = nets(alloc, case)?;
     bundle(alloc, case, nets)
@@ -36,7 +36,7 @@ fn plain_bundle(alloc: Global, case: &Case) -> Result<Bundle<Net<Fraction>>, Ope
 /// Returns the bundle of a case with epsilon.
 #[tactic(auto, unfolding(crate::specs::CaseRun::opening_in))]
 fn eps_bundle(alloc: Global, case: &Case) -> Result<Bundle<RowNet>, OpenFault>
-    ensures { Opens bundled result (opening_in in_quotients (content case.now)) }
+    ensures { Makes bundled result (opening_in in_quotients (content case.now)) }
 {
     let nets = nets(alloc, case)?;
     bundle(alloc, case, nets)
@@ -60,7 +60,7 @@ impl CaseNet {
       case_shares,
       case_removal,
     };
-    ghost use Rattle.entangled.specs.Opening.{Opens};
+    ghost use Rattle.field_core.specs.Made.{Makes};
 
     /// Returns the nets of a case, with all hypotheses in: of fractions if the case is plain, and of rows of quotients in
     /// epsilon if it isn't. There each edge is loaded as the written polynomial of its coefficients, and then the rows of each
@@ -69,7 +69,7 @@ impl CaseNet {
     /// Unless out of memory, it is `OpenFault::Wide` exactly if the written opening is undefined.
     #[tactic(auto, unfolding(crate::specs::CaseNetView::case_state), using(crate::proofs::CaseNumbers::openings))]
     pub fn load(alloc: Global, case: &Case) -> Result<CaseNet, OpenFault>
-        ensures opened { Opens case_state result (case_opening (content case.now)) }
+        ensures opened { Makes case_state result (case_opening (content case.now)) }
         ensures plain { IfOk result (λ n. is_of_fractions n ≡ is_plain (content case.now)) }
     {
         if case.is_plain() {

@@ -4,7 +4,7 @@ ghost use Rattle.field_core.specs.Steps.{in_component};
 ghost use Rattle.case_numbers.specs.Numbers.{Numbers};
 ghost use Rattle.removal.specs.StoredGraph.{IsSquare, all_live};
 ghost use Rattle.removal.specs.ByValue.{IsSound};
-ghost use Rattle.entangled.specs.Opening.{Opens};
+ghost use Rattle.field_core.specs.Made.{Makes};
 ghost use Rattle.entangled.specs.States.{state_in, gathered_in, CanGather};
 
 use crate::OpenFault;
@@ -12,7 +12,7 @@ use case_numbers::CaseNumber;
 use eps_quotient::EpsQuotient;
 use fraction::Fraction;
 use removal::Net;
-use row_removal::{RowNet, RowOpen};
+use row_removal::RowNet;
 use std::alloc::Global;
 
 /// A net that a component of a case is run in.
@@ -37,7 +37,7 @@ pub trait ComponentNet: Drop {
         requires square { IsSquare (length weights.now) (length weights.now) (length edges.now) }
         requires sound { IsSound Self.Value.kind (all_live (map Self.Value.parts weights.now) (map Self.Value.parts edges.now)) }
         requires constants { CanGather numbers (all_live (map Self.Value.parts weights.now) (map Self.Value.parts edges.now)) }
-        ensures { Opens state result (in_component component (gathered_in numbers (all_live
+        ensures { Makes state result (in_component component (gathered_in numbers (all_live
             (map Self.Value.parts weights.now) (map Self.Value.parts edges.now)))) };
 
     /// Its values are those numbers.
@@ -84,11 +84,7 @@ impl ComponentNet for RowNet {
         weights: &[EpsQuotient],
         edges: &[EpsQuotient],
     ) -> Result<RowNet, OpenFault> {
-        match RowNet::try_new(alloc, weights, edges) {
-            Ok(net) => Ok(net),
-            Err(RowOpen::Wide(wide)) => Err(OpenFault::Wide(wide.in_component(component))),
-            Err(RowOpen::NoMemory) => Err(OpenFault::NoMemory),
-        }
+        RowNet::try_new(alloc, weights, edges).map_err(|fault| fault.in_component(component))
     }
 
     ghost numbers_are = { refl };

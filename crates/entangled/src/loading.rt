@@ -9,7 +9,7 @@ ghost use Rattle.entangled.specs.BundleRun.{AreReady};
 ghost use Rattle.entangled.specs.BundleView.{bundled};
 ghost use Rattle.entangled.specs.Bundled.{opened};
 ghost use Rattle.entangled.specs.Loading.{edge_at, loaded_edges, loaded_states, state_at};
-ghost use Rattle.entangled.specs.Opening.{Opens};
+ghost use Rattle.field_core.specs.Made.{Makes};
 
 use crate::component_net::ComponentNet;
 use crate::{Bundle, OpenFault};
@@ -58,7 +58,7 @@ fn write_edges<F: CaseNumber>(table: &[Entry], size: usize, edges: &mut [F]) -> 
 #[tactic(auto, using(std::proofs::lemmas::List::with_items_is))]
 pub fn edges<F: CaseNumber>(alloc: Global, case: &Case, c: usize) -> Result<Vec<F>, OpenFault>
     requires { c < length (content case.now).components }
-    ensures { Opens (λ es. map F.parts es.items) result (in_component c (loaded_edges F.numbers (length
+    ensures { Makes (λ es. map F.parts es.items) result (in_component c (loaded_edges F.numbers (length
         (content case.now).names) (component_at (content case.now).components c).edges)) }
 {
     let table = case.edges(c);
@@ -72,7 +72,7 @@ pub fn edges<F: CaseNumber>(alloc: Global, case: &Case, c: usize) -> Result<Vec<
 pub fn net<N: ComponentNet>(alloc: Global, case: &Case, c: usize) -> Result<N, OpenFault>
     requires numbers { CanRunIn N.numbers (content case.now) }
     requires component { c < length (content case.now).components }
-    ensures { Opens N.state result (state_at N.numbers (length (content case.now).names) (content case.now).components c) }
+    ensures { Makes N.state result (state_at N.numbers (length (content case.now).names) (content case.now).components c) }
 {
     let weights = weights(alloc, case, c)?;
     let edges = edges(alloc, case, c)?;
@@ -83,7 +83,7 @@ pub fn net<N: ComponentNet>(alloc: Global, case: &Case, c: usize) -> Result<N, O
 #[tactic(auto, using(crate::proofs::LoadSteps::state_steps))]
 pub fn nets<N: ComponentNet>(alloc: Global, case: &Case) -> Result<List<N>, OpenFault>
     requires { CanRunIn N.numbers (content case.now) }
-    ensures { Opens (map N.state) result (loaded_states N.numbers (length (content case.now).names) (content case.now).components) }
+    ensures { Makes (map N.state) result (loaded_states N.numbers (length (content case.now).names) (content case.now).components) }
 {
     let mut nets = List::new(alloc);
     for c in 0..case.components() {
@@ -110,7 +110,7 @@ pub fn bundle<R: Remover + Drop>(
     nets: List<R>,
 ) -> Result<Bundle<R>, OpenFault>
     requires { AreReady R.Value.kind R.graph R.IsProper (map R.present nets) (map (λ k. k.share) (content case.now).components) }
-    ensures { Opens bundled result (opened R.Value.kind R.graph (map R.present nets) (map (λ k. k.share) (content case.now).components)) }
+    ensures { Makes bundled result (opened R.Value.kind R.graph (map R.present nets) (map (λ k. k.share) (content case.now).components)) }
 {
     let shares = shares(alloc, case)?;
     Bundle::try_new(alloc, nets, shares.as_slice())

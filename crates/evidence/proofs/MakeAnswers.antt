@@ -19,9 +19,9 @@ use Rattle.entangled.specs.Bundled.{Bundled}
 use Rattle.entangled.specs.States.{state_in, graph_in, removal_in}
 use Rattle.entangled.specs.CaseRun.{CaseState, state_of, case_size, opening_in, case_opening}
 use Rattle.entangled.specs.CaseNetView.{case_state}
-use Rattle.entangled.specs.Opening.{Opens}
-use Rattle.entangled.specs.declared.open_fault.OpenFault.{OpenFault}
-use Rattle.entangled.specs.declared.open_fault.OpenFault.TheVariants.{Wide as OpenWide, NoMemory as OpenNoMemory}
+use Rattle.field_core.specs.Made.{Makes}
+use Rattle.entangled.specs.OpenFaults.{OpenFault}
+use Rattle.field_core.specs.declared.fault.Fault.TheVariants.{Wide as OpenWide, NoMemory as OpenNoMemory}
 use Rattle.sequential.specs.Decisions.{IsDecision, IsDecisionWith, hypotheses}
 use Rattle.sequential.specs.declared.decision.Decision.{Decision}
 use Rattle.sequential.specs.declared.priority.Priority.{Priority}
@@ -36,7 +36,7 @@ use Rattle.evidence_check.proofs.CaseChecked.{listed_names}
 use Rattle.evidence.specs.FlowRun.{at_step, evidence_run}
 use Rattle.evidence.specs.CaseFlows.{IsCompleteOrder, case_flows, flows_in, AreOpened, flows_from, has_fractions}
 use Rattle.evidence.specs.Made.{MakesAll, written_evidence}
-use Rattle.sequential.specs.OpeningFault.{at_step_zero}
+use Rattle.sequential.specs.OpeningFault.{fault_at}
 use Rattle.sequential.specs.declared.fault.RunFault.{RunFault}
 use Rattle.evidence.proofs.CaseEvidence.{case_opening_is, case_order, flows_fit, flows_list, flows_meet}
 
@@ -51,8 +51,8 @@ refused n js (Err v) w h = ap (λ v. Err (record { step = 0; at = v })) (same_er
     same_error r v w h k = cc
 
 -- a refused opening is step 0 of the run
-pub opening_refused : (c : Content) (js : List ℕ) (f : OpenFault) → Opens case_state (Err f) (case_opening c)
-    → MakesAll written_evidence (Err (at_step_zero f)) (case_flows c js)
+pub opening_refused : (c : Content) (js : List ℕ) (f : OpenFault) → Makes case_state (Err f) (case_opening c)
+    → MakesAll written_evidence (Err (fault_at 0 f)) (case_flows c js)
 unfolding case_opening case_flows flows_in
 opening_refused c js (OpenWide w) h = refused (numbers_of c) js (opening_in (numbers_of c) c) w h
 opening_refused c js OpenNoMemory h = tt

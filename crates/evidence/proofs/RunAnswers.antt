@@ -20,11 +20,13 @@ use Rattle.evidence.specs.FlowRun.{WideStep, RunState, FlowRun, at_step, has_som
 use Rattle.evidence.specs.FlowRun.{evidence_run, graph_at, tables_at, no_graph, no_tables}
 use Rattle.evidence.specs.TablesView.{tables_of}
 use Rattle.evidence.specs.declared.tables.Tables.{Tables as KeptTables}
-use Rattle.evidence.specs.declared.fault.Fault.{Fault}
-use Rattle.evidence.specs.declared.fault.Fault.TheVariants.{Wide as TooWide, NoMemory}
+use Rattle.field_core.specs.declared.fault.Fault.{Fault}
+use Rattle.field_core.specs.declared.fault.Fault.TheVariants.{Wide as TooWide, NoMemory}
 use Rattle.sequential.specs.declared.fault.RunFault.{RunFault}
 use Rattle.sequential.specs.declared.fault.RunFault.TheVariants.{Wide as MakeWide, NoMemory as MakeNoMemory}
-use Rattle.evidence.specs.Made.{Makes, MakesAll, fault_in, fault_at}
+use Rattle.field_core.specs.Made.{Makes, fault_in}
+use Rattle.sequential.specs.OpeningFault.{fault_at}
+use Rattle.evidence.specs.Made.{MakesAll}
 use Rattle.evidence.proofs.RowAnswers.{row_is}
 use Rattle.evidence.proofs.TableAnswers.{each_none, each_more}
 

@@ -12,9 +12,9 @@ use Rattle.removal.specs.StoredGraph.{StoredGraph, size, edge}
 use Rattle.removal.specs.WrittenRemoval.{is_gone, divisor}
 use Rattle.evidence.specs.FlowTables.{Tables, row, put_each, if_wanted, new_tables, new_flow, new_flows, new_visit, new_visits_by, new_visits, new_exit}
 use Rattle.evidence.specs.FlowTables.{new_exits}
-use Rattle.evidence.specs.declared.fault.Fault.{Fault}
-use Rattle.evidence.specs.declared.fault.Fault.TheVariants.{Wide as TooWide, NoMemory}
-use Rattle.evidence.specs.Made.{Makes}
+use Rattle.field_core.specs.declared.fault.Fault.{Fault}
+use Rattle.field_core.specs.declared.fault.Fault.TheVariants.{Wide as TooWide, NoMemory}
+use Rattle.field_core.specs.Made.{Makes}
 use Rattle.evidence.proofs.Puts.{put_nil, put_refused, put_then, put_then_refused}
 
 -- ---- rows one after the other

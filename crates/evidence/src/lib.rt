@@ -9,7 +9,6 @@
 //!   meets its conditions and keeps all others. Each decision lists a complete legal order.
 #![tactic(auto)]
 
-mod fault;
 pub mod laws;
 mod maker;
 mod rows;
@@ -17,6 +16,5 @@ mod run;
 mod tables;
 mod writer;
 
-pub use fault::MakeFault;
-pub use maker::make;
+pub use maker::{MakeFault, make};
 pub use writer::write;

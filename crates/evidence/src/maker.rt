@@ -12,14 +12,16 @@ ghost use Rattle.evidence_check.specs.CaseCheck.{IsSingle, MeetsIn};
 ghost use Rattle.evidence.specs.CaseFlows.{IsCompleteOrder, case_flows, AreOpened, flows_from, has_fractions};
 ghost use Rattle.evidence.specs.Made.{MakesAll, written_evidence};
 
-use crate::fault::MakeFault;
 use crate::run::evidence;
 use case_model::Case;
 use entangled::CaseNet;
 use evidence_check::Evidence;
 use field_core::{List, NoMemory};
-use sequential::{Decision, StepLine};
+use sequential::{Decision, RunFault, StepLine};
 use std::alloc::Global;
+
+/// Why no evidence is made.
+pub type MakeFault = RunFault;
 
 /// Returns the hypotheses of lines, in their order.
 #[tactic(auto, using(std::proofs::lemmas::List::map_push, std::proofs::lemmas::List::take_more, std::proofs::lemmas::List::take_all))]

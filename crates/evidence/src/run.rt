@@ -1,6 +1,7 @@
 //! The flow run of nets.
 ghost use Rattle.std.specs.Prelude.{◌≡◌, ◌<◌, ◌==◌, true, not, [], IfOk, map, length};
 ghost use Rattle.std.specs.List.{list_any};
+ghost use Rattle.field_core.specs.Made.{Makes};
 ghost use Rattle.field_core.specs.Sets.{whole};
 ghost use Rattle.field_core.specs.Runs.{IsOrder};
 ghost use Rattle.field_core.specs.Steps.{in_component};
@@ -23,15 +24,15 @@ ghost use Rattle.evidence.specs.FlowRun.{
 };
 ghost use Rattle.evidence.specs.FlowStatements.{IsOpened};
 ghost use Rattle.evidence.specs.TablesView.{tables_of};
-ghost use Rattle.evidence.specs.Made.{Makes, MakesAll, written_steps};
+ghost use Rattle.evidence.specs.Made.{MakesAll, written_steps};
 
-use crate::fault::{Fault, MakeFault};
 use crate::rows::{number, row};
 use crate::tables::{Tables, first_tables, tables_after};
 use entangled::Bundle;
 use evidence_check::{KeepProof, ProofStep, Steps};
-use field_core::{List, NoMemory, Number, WideAt};
+use field_core::{Fault, List, NoMemory, Number, WideAt};
 use removal::Remover;
+use sequential::RunFault;
 use std::alloc::Global;
 
 /// Returns the numbers at places of a row.
@@ -143,7 +144,7 @@ fn step<R: Remover>(
     earlier: &[usize],
     is_last: bool,
     is_kept: bool,
-) -> Result<List<Tables<R::Value>>, MakeFault>
+) -> Result<List<Tables<R::Value>>, RunFault>
     requires live { is_live R.graph (bundled bundle.old) j ≡ true }
     requires count { length tables.now ≡ length (bundled bundle.old).states }
     ensures { MakesAll (λ next. record { bundle = bundled bundle.new; tables = map (tables_of R.Value.parts) next }) result
@@ -153,14 +154,14 @@ fn step<R: Remover>(
     let number = earlier.len() + 1;
     let next = match all_tables(alloc, bundle, tables, j, earlier, is_last, is_kept) {
         Ok(next) => next,
-        Err(fault) => return Err(fault.at_step(number)),
+        Err(fault) => return Err(RunFault::at_step(number, fault)),
     };
     if is_last {
         return Ok(next);
     }
     match bundle.remove(j) {
         Ok(()) => Ok(next),
-        Err(wide) => Err(MakeFault::Wide(number, wide)),
+        Err(wide) => Err(RunFault::Wide(number, wide)),
     }
 }
 
@@ -192,7 +193,7 @@ fn run<R: Remover>(
     bundle: &mut Bundle<R>,
     hypotheses: &[usize],
     is_kept: bool,
-) -> Result<FinishedRun<R::Value>, MakeFault>
+) -> Result<FinishedRun<R::Value>, RunFault>
     requires opened { IsOpened R.Value.kind R.graph R.IsProper (bundled bundle.old) }
     requires order { IsOrder (size R.graph (bundled bundle.old)) whole hypotheses.now }
     ensures { MakesAll (λ r. record {
@@ -272,7 +273,7 @@ pub fn evidence<R: Remover>(
     alloc: Global,
     bundle: &mut Bundle<R>,
     hypotheses: &[usize],
-) -> Result<Steps<R::Value>, MakeFault>
+) -> Result<Steps<R::Value>, RunFault>
     requires opened { IsOpened R.Value.kind R.graph R.IsProper (bundled bundle.old) }
     requires order { IsOrder (size R.graph (bundled bundle.old)) whole hypotheses.now }
     ensures made { MakesAll (written_steps R.Value.parts) result

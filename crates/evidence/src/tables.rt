@@ -18,11 +18,10 @@ ghost use Rattle.evidence.specs.FlowTables.{
 };
 ghost use Rattle.evidence.specs.FlowTables.{new_tables};
 ghost use Rattle.evidence.specs.TablesView.{tables_of};
-ghost use Rattle.evidence.specs.Made.{Makes};
+ghost use Rattle.field_core.specs.Made.{Makes};
 
-use crate::fault::Fault;
 use crate::rows::{copy, number, put, put_each, row, zeros};
-use field_core::{List, NoMemory, Number, Place, Wide};
+use field_core::{Fault, List, NoMemory, Number, Place, Wide};
 use removal::Remover;
 use std::alloc::Global;
 

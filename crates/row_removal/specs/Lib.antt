@@ -6,5 +6,4 @@ pub mod Proper
 pub mod Gathering
 pub mod GivenView
 pub mod RowNetView
-pub mod RowsOpen
 pub mod Laws

@@ -9,7 +9,5 @@ mod graph;
 mod net;
 mod new_rows;
 mod row;
-mod row_open;
 
-pub use net::RowNet;
-pub use row_open::RowOpen;
+pub use net::{RowNet, RowOpen};

@@ -5,14 +5,16 @@ ghost use Rattle.eps_quotient.specs.Quotients.{quotients};
 ghost use Rattle.row_removal.specs.StoredRows.{rows_size, rows_graph};
 ghost use Rattle.row_removal.specs.Proper.{AreProperRows, HasRoom, proper_is_fact};
 
-use crate::RowOpen;
 use crate::gathering::GivenGraph;
 use crate::graph::RowGraph;
 use crate::row::Row;
 use eps_quotient::EpsQuotient;
-use field_core::{Number, Ratio, Wide};
+use field_core::{Fault, Number, Ratio, Wide};
 use removal::Remover;
 use std::alloc::Global;
+
+/// Why no rows were opened: a written operation of the gathering has a part past its size, or memory is out.
+pub type RowOpen = Fault<Wide>;
 
 /// A graph of quotients in epsilon in rows, room for the one after the next removal, and a spare row for the quotients of a
 /// clearing.
@@ -35,6 +37,7 @@ pub struct RowNet {
 #[tactic(auto, unfolding(crate::specs::RowNetView::present_rows, crate::specs::RowNetView::prepared_rows))]
 impl RowNet {
     ghost use Rattle.std.specs.Prelude.{◌≡◌, length, IfOk, None};
+    ghost use Rattle.field_core.specs.Made.{Makes};
     ghost use Rattle.removal.specs.StoredGraph.{IsSquare, AreAllLive};
     ghost use Rattle.removal.specs.ByValue.{IsSound, graph_of};
     ghost use Rattle.eps_quotient.specs.Quotients.{quotients};
@@ -42,7 +45,6 @@ impl RowNet {
     ghost use Rattle.row_removal.specs.Gathering.{HasConstants, gathered};
     ghost use Rattle.row_removal.specs.GivenView.{graph_given};
     ghost use Rattle.row_removal.specs.RowNetView.{present_rows, prepared_rows};
-    ghost use Rattle.row_removal.specs.RowsOpen.{RowsOpen};
 
     /// Returns the net with these weights and edges. All hypotheses remain, and nothing is prepared. There are at most 64
     /// hypotheses, a weight and a row of edges for each, they are a valid graph, and every denominator is a constant. The edges
@@ -57,7 +59,7 @@ impl RowNet {
         requires square { IsSquare (length weights.now) (length weights.now) (length edges.now) }
         requires constants { HasConstants (graph_given weights.now edges.now) }
         requires sound { IsSound quotients (graph_given weights.now edges.now) }
-        ensures rows { RowsOpen present_rows result (gathered (graph_given weights.now edges.now)) }
+        ensures rows { Makes present_rows result (gathered (graph_given weights.now edges.now)) }
         ensures value { IfOk result (λ n. graph_of quotients (rows_graph (present_rows n)) ≡ graph_of quotients
             (graph_given weights.now edges.now)) }
         ensures live { IfOk result (λ n. AreAllLive (rows_graph (present_rows n))) }

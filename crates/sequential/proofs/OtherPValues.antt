@@ -27,16 +27,15 @@ use Rattle.field_core.specs.Steps.{◌>>=◌}
 use Rattle.field_core.specs.declared.place.WideAt.{WideAt}
 use Rattle.removal.specs.InTurn.{removed_in_turn}
 use Rattle.entangled.specs.CaseAfter.{case_after}
-use Rattle.entangled.specs.OpenFaults.{IsOpenFaultOf}
-use Rattle.entangled.specs.declared.open_fault.OpenFault.{OpenFault}
-use Rattle.entangled.specs.declared.open_fault.OpenFault.TheVariants.{Wide, NoMemory}
+use Rattle.entangled.specs.OpenFaults.{IsOpenFaultOf, OpenFault}
+use Rattle.field_core.specs.declared.fault.Fault.TheVariants.{Wide, NoMemory}
 use Rattle.entangled.specs.CaseRun.{CaseState, case_opening, case_removal, opening_in, case_numbers, case_size, case_shares}
 use Rattle.entangled.proofs.CaseLevels.{case_sizes}
 use Rattle.entangled.proofs.CaseNumbers.{plain_opening, other_opening}
 use Rattle.entangled.proofs.CaseRuns.{after_more, after_opening}
 use Rattle.entangled.proofs.CaseSteps.{numbers_stay, case_shares_stay}
 use Rattle.sequential.specs.OtherPValues.{with_p, CasesAreValidWithOtherPValues, IsTrialOfGraph}
-use Rattle.sequential.specs.OpeningFault.{at_step_zero}
+use Rattle.sequential.specs.OpeningFault.{fault_at}
 use Rattle.sequential.specs.Trials.{TrialContent}
 use Rattle.sequential.specs.WideDecisions.{IsDecideFault}
 use Rattle.sequential.specs.declared.fault.RunFault.{RunFault}
@@ -87,7 +86,7 @@ names_of d = refl
 
 -- the draft without stages that has these p-values
 abbrev draft_with : Draft → List Ratio → Draft
-draft_with d ps = record { names = d.names; alpha = d.alpha; p = map (λ p. Some p) ps; components = d.components; stages = None }
+draft_with d ps = record d { p = map (λ p. Some p) ps; stages = None }
 
 module _ (d : Draft) (h : case_fault d ≡ None) (ps : List Ratio) (are : ArePValues (length d.names) ps) where
   valid_with : IsValidDraft (draft_with d ps)
@@ -122,12 +121,7 @@ inputs_with ps h =
 
 content_with : (d : Draft) (ps : List Ratio) → 0 < length ps → content_of (draft_with d ps) ≡ with_p (content_of d) ps
 unfolding content_of
-content_with d ps h = ap (λ i. record {
-  names = d.names;
-  alpha = d.alpha;
-  components = (content_of d).components;
-  inputs = i;
-}) (inputs_with ps h)
+content_with d ps h = ap (λ i. record (content_of d) { inputs = i }) (inputs_with ps h)
 
 pub valid_with_p : CasesAreValidWithOtherPValues
 valid_with_p c ps v are = ∥∥₁_elim v ∥∥₁_prop (λ f. ∣ changed f ∣₁)
@@ -211,11 +205,11 @@ one_more_threshold ps ts alpha x k within before here i h = elim (cases_eq i k) 
 
 -- a refused opening is a fault of the decision with other p-values
 pub wide_opening_with : {A : Type 0} (c : Content) (ps : List Ratio) (priority : Priority) (r : Result A RunFault) (opening : OpenFault)
-    → IsErrAnd r (λ fault. fault ≡ at_step_zero opening) → IsOpenFaultOf c opening → IfErr r (IsDecideFault (with_p c ps) priority)
+    → IsErrAnd r (λ fault. fault ≡ fault_at 0 opening) → IsOpenFaultOf c opening → IfErr r (IsDecideFault (with_p c ps) priority)
 wide_opening_with c ps priority (Ok x) opening e h = tt
 wide_opening_with c ps priority (Err fault) opening e h = subst (IsDecideFault (with_p c ps) priority) (sym e) (by_opening opening h)
   where
-    by_opening : (opening : OpenFault) → IsOpenFaultOf c opening → IsDecideFault (with_p c ps) priority (at_step_zero opening)
+    by_opening : (opening : OpenFault) → IsOpenFaultOf c opening → IsDecideFault (with_p c ps) priority (fault_at 0 opening)
     by_opening (Wide w) h = opening_with c ps ∙ h
     by_opening NoMemory h = tt
 

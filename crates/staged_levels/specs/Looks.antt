@@ -7,8 +7,8 @@ use Rattle.case_model.specs.declared.inputs.Inputs.TheVariants.{Bare, Single, St
 use Rattle.case_model.specs.Content.{Content}
 use Rattle.entangled.specs.CaseRun.{CaseState, case_opening}
 use Rattle.entangled.specs.CaseAfter.{case_after}
-use Rattle.entangled.specs.declared.open_fault.OpenFault.{OpenFault}
-use Rattle.entangled.specs.declared.open_fault.OpenFault.TheVariants.{Wide as OpenWide, NoMemory as OpenNoMemory}
+use Rattle.entangled.specs.OpenFaults.{OpenFault}
+use Rattle.field_core.specs.declared.fault.Fault.TheVariants.{Wide as OpenWide, NoMemory as OpenNoMemory}
 use Rattle.staged_levels.specs.declared.event.Settled.{Settled}
 use Rattle.staged_levels.specs.declared.case_looks.LooksFault.{LooksFault}
 use Rattle.staged_levels.specs.declared.case_looks.LooksFault.TheVariants.{Opening, Arriving, NoMemory}

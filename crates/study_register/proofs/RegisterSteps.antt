@@ -8,8 +8,8 @@ use Rattle.graph_io.specs.declared.keeper.Look.{Look}
 use Rattle.graph_io.specs.declared.keeper.KeeperFault.{KeeperFault}
 use Rattle.graph_io.specs.declared.keeper.KeeperFault.TheVariants as keepers
 use Rattle.case_model.specs.Content.{Content}
-use Rattle.entangled.specs.declared.open_fault.OpenFault.{OpenFault}
-use Rattle.entangled.specs.declared.open_fault.OpenFault.TheVariants as openings
+use Rattle.entangled.specs.OpenFaults.{OpenFault}
+use Rattle.field_core.specs.declared.fault.Fault.TheVariants as openings
 use Rattle.staged_levels.specs.Studies.{StudyState, start}
 use Rattle.staged_levels.specs.StudyContents.{StudyContent, IsStudy}
 use Rattle.staged_levels.specs.Looks.{IsDefined}

@@ -2,8 +2,8 @@
 use Rattle.std.specs.Prelude.{Bool}
 use Rattle.graph_io.specs.declared.keeper.KeeperFault.{KeeperFault}
 use Rattle.graph_io.specs.declared.keeper.KeeperFault.TheVariants as keepers
-use Rattle.entangled.specs.declared.open_fault.OpenFault.{OpenFault}
-use Rattle.entangled.specs.declared.open_fault.OpenFault.TheVariants as openings
+use Rattle.entangled.specs.OpenFaults.{OpenFault}
+use Rattle.field_core.specs.declared.fault.Fault.TheVariants as openings
 use Rattle.staged_levels.specs.Studies.{StudyState}
 use Rattle.staged_levels.specs.StudyContents.{StudyContent}
 use Rattle.staged_levels.specs.StudyView.{study}

@@ -5,8 +5,8 @@ use Rattle.field_core.specs.declared.ratio.Ratio.{Ratio}
 use Rattle.case_model.specs.Content.{Content, IsRejectedIn}
 use Rattle.case_model.specs.Sums.{ratio_at}
 use Rattle.entangled.specs.CaseRun.{case_opening}
-use Rattle.entangled.specs.declared.open_fault.OpenFault.{OpenFault}
-use Rattle.entangled.specs.declared.open_fault.OpenFault.TheVariants as openings
+use Rattle.entangled.specs.OpenFaults.{OpenFault}
+use Rattle.field_core.specs.declared.fault.Fault.TheVariants as openings
 use Rattle.sequential.specs.OtherPValues.{with_p}
 use Rattle.sequential.specs.WideDecisions.{IsWideDecision}
 use Rattle.sequential.specs.declared.priority.Priority.TheVariants.{First}

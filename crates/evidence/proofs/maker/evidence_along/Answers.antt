@@ -4,7 +4,7 @@ use Rattle.entangled.specs.CaseNetView.{is_of_fractions}
 use Rattle.evidence_check.specs.EvidenceView.{IsFormOf}
 use Rattle.evidence.specs.CaseFlows.{has_fractions}
 use Rattle.evidence.specs.Made.{MakesAll, written_evidence}
-use Rattle.sequential.specs.OpeningFault.{at_step_zero}
+use Rattle.sequential.specs.OpeningFault.{fault_at}
 use Rattle.evidence.proofs.MakeAnswers.{opening_refused, flows_by, nets_opened, nets_order, form_is, if_ok}
 use Rattle.evidence.proofs.maker.evidence_along.Goals as goal
 
@@ -16,7 +16,7 @@ evidence_of-requires-clause-order c = nets_order (content c.args.case.now) c.arg
 
 pub returns-in_err-nets-clause-made : goal.returns-in_err-nets-clause-made
 returns-in_err-nets-clause-made c =
-    let e : c.from_residual.result ≡ Err (at_step_zero c.in_err-nets.field-0.0) = search rules in
+    let e : c.from_residual.result ≡ Err (fault_at 0 c.in_err-nets.field-0.0) = search rules in
     rw e (opening_refused (content c.args.case.now) c.args.hypotheses.now c.in_err-nets.field-0.0 c.in_err-nets.ensures.opened)
 
 pub returns-clause-made : goal.returns-clause-made

@@ -1,6 +1,6 @@
 use Rattle.std.proofs.Common.{rules, ◌≡◌, ◌∙◌, sym, ap, map, Ok, Err}
 use Rattle.field_core.specs.Kind.{ok_map}
-use Rattle.evidence.specs.declared.fault.Fault.TheVariants.{Wide}
+use Rattle.field_core.specs.declared.fault.Fault.TheVariants.{Wide}
 use Rattle.evidence.specs.FlowTables.{put_each, new_flow}
 use Rattle.evidence.proofs.RowAnswers.{row_is, put_seen}
 use Rattle.evidence.proofs.TableAnswers.{moved, moved_two, flows_refused, flows_last_refused, flows_done}

@@ -1,15 +1,11 @@
-//! Why a part of a run of flows isn't made.
-use field_core::{NoMemory, Wide, WideAt};
-use sequential::RunFault;
+//! Why what is written isn't made: an operation is too wide, or memory is out.
+use crate::{NoMemory, Wide, WideAt};
 use std::alloc::AllocError;
 
-/// Why no evidence is made.
-pub type MakeFault = RunFault;
-
-/// Why a part of a run isn't made.
-#[derive(Clone, Copy)]
+/// Why something isn't made.
+#[derive(Clone, Copy, PartialEq, Eq, Debug)]
 pub enum Fault<W> {
-    /// The first operation of it that is undefined.
+    /// The first written operation of it that has a part past its size.
     Wide(W),
     /// Out of memory.
     NoMemory,
@@ -17,7 +13,7 @@ pub enum Fault<W> {
 
 impl<W> From<NoMemory> for Fault<W> {
     ghost use Rattle.std.specs.Prelude.{◌≡◌};
-    ghost use Rattle.evidence.specs.declared.fault.Fault.TheVariants.{NoMemory as OutOfMemory};
+    ghost use Rattle.field_core.specs.declared.fault.Fault.TheVariants.{NoMemory as OutOfMemory};
 
     ghost from_gives = { λ _ fault. fault ≡ OutOfMemory };
 
@@ -28,7 +24,7 @@ impl<W> From<NoMemory> for Fault<W> {
 
 impl<W> From<AllocError> for Fault<W> {
     ghost use Rattle.std.specs.Prelude.{◌≡◌};
-    ghost use Rattle.evidence.specs.declared.fault.Fault.TheVariants.{NoMemory as OutOfMemory};
+    ghost use Rattle.field_core.specs.declared.fault.Fault.TheVariants.{NoMemory as OutOfMemory};
 
     ghost from_gives = { λ _ fault. fault ≡ OutOfMemory };
 
@@ -39,7 +35,7 @@ impl<W> From<AllocError> for Fault<W> {
 
 impl From<Wide> for Fault<Wide> {
     ghost use Rattle.std.specs.Prelude.{◌≡◌};
-    ghost use Rattle.evidence.specs.declared.fault.Fault.TheVariants.{Wide as TooWide};
+    ghost use Rattle.field_core.specs.declared.fault.Fault.TheVariants.{Wide as TooWide};
 
     ghost from_gives = { λ wide fault. fault ≡ TooWide wide };
 
@@ -48,32 +44,28 @@ impl From<Wide> for Fault<Wide> {
     }
 }
 
+impl From<WideAt> for Fault<WideAt> {
+    ghost use Rattle.std.specs.Prelude.{◌≡◌};
+    ghost use Rattle.field_core.specs.declared.fault.Fault.TheVariants.{Wide as TooWide};
+
+    ghost from_gives = { λ wide fault. fault ≡ TooWide wide };
+
+    fn from(wide: WideAt) -> Fault<WideAt> {
+        Fault::Wide(wide)
+    }
+}
+
 impl Fault<Wide> {
     ghost use Rattle.std.specs.Prelude.{◌≡◌};
-    ghost use Rattle.evidence.specs.Made.{fault_in};
+    ghost use Rattle.field_core.specs.Made.{fault_in};
 
-    /// Returns the fault in a run on the component `component`.
+    /// Returns the fault in a run on the component `component`, from 0.
     pub fn in_component(self, component: usize) -> Fault<WideAt>
         ensures { result ≡ fault_in component self }
     {
         match self {
             Fault::Wide(wide) => Fault::Wide(wide.in_component(component)),
             Fault::NoMemory => Fault::NoMemory,
-        }
-    }
-}
-
-impl Fault<WideAt> {
-    ghost use Rattle.std.specs.Prelude.{◌≡◌};
-    ghost use Rattle.evidence.specs.Made.{fault_at};
-
-    /// Returns the fault at the step `step`.
-    pub fn at_step(self, step: usize) -> MakeFault
-        ensures { result ≡ fault_at step self }
-    {
-        match self {
-            Fault::Wide(wide) => MakeFault::Wide(step, wide),
-            Fault::NoMemory => MakeFault::NoMemory,
         }
     }
 }

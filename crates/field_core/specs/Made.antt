@@ -1,0 +1,18 @@
+-- What the code makes of a written run, as long as memory lasts.
+use Rattle.std.specs.Prelude.{◌≡◌, ℕ, Result, Ok, Err}
+use Rattle.field_core.specs.declared.place.Wide.{Wide as WideAtPlace}
+use Rattle.field_core.specs.declared.place.WideAt.{WideAt}
+use Rattle.field_core.specs.declared.fault.Fault.{Fault}
+use Rattle.field_core.specs.declared.fault.Fault.TheVariants.{Wide, NoMemory}
+
+-- a fault on a component, with it
+abbrev pub fault_in : ℕ → Fault WideAtPlace → Fault WideAt
+fault_in c (Wide w) = Wide (record { component = c; place = w.place; op = w.op })
+fault_in c NoMemory = NoMemory
+
+-- What is made. If it is made: what was written, as `view` shows it. If it is too wide: the first operation that is undefined. Nothing is said when
+-- out of memory.
+abbrev pub Makes : {A B W : Type 0} → (A → B) → Result A (Fault W) → Result B W → Type 0
+Makes view (Ok x) written = written ≡ Ok (view x)
+Makes view (Err (Wide w)) written = written ≡ Err w
+Makes view (Err NoMemory) written = Unit {0}
