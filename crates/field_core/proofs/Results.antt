@@ -3,9 +3,12 @@ use Rattle.std.proofs.Common.{◌≡◌, Option, Some, None, Result, Ok, Err, On
 use Rattle.field_core.specs.Answers.{and_then, mapped, told_as}
 use Rattle.field_core.specs.Kind.{or_wide}
 use Rattle.field_core.specs.Sized.{◌>>=◌}
--- what comes after an answer came after a value
-pub use Rattle.field_core.specs.Laws.Prefixes.{bind_ok as came_from}
+use Rattle.field_core.specs.Laws.Prefixes.{bind_ok}
 use Rattle.field_core.specs.declared.place.Op.{Op}
+
+-- what comes after an answer came after a value
+pub came_from : {A B E : Type 0} (r : Result A E) (next : A → Result B E) (b : B) → and_then r next ≡ Ok b → (a : A) × (r ≡ Ok a) × (next a ≡ Ok b)
+came_from r next b e = let a = bind_ok r next b e in (a.0, a.1.0, a.1.1)
 
 pub made_of : {A B E : Type 0} (f : A → B) (r : Result A E) (b : B) → mapped f r ≡ Ok b → (a : A) × (r ≡ Ok a) × (b ≡ f a)
 made_of f (Ok a) b e = (a, refl, cc)
