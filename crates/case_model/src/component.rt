@@ -76,6 +76,7 @@ impl Component {
 }
 
 /// Returns the table of the edges between this number of hypotheses, row by row. Of edges with the same ends it has the first.
+#[tactic(auto, using(crate::proofs::Holding::all_at))]
 fn table(alloc: Global, count: usize, edges: &[DraftEdge]) -> Result<List<Entry>, NoMemory>
     requires few { count ≤ 64 }
     requires ends { list_all (goes_between count) edges.now ≡ true }

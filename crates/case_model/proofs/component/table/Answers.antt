@@ -30,9 +30,6 @@ loop-n-init c =
           ∙ ap (λ es. edge_between es (k / c.args.count) (k % c.args.count)) (sym (drop-length c.args.edges.now));
     }
 
-pub place-requires-clause-ends : goal.place-requires-clause-ends
-place-requires-clause-ends c = known ((goal.at.place-requires-clause-ends c).After-index-edges-n)
-
 pub set-requires : goal.set-requires
 set-requires c = omega (arith, c.place.ensures.within, c.loop-n.invariant.size)
 
