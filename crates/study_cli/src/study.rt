@@ -63,7 +63,7 @@ fn commands_in(alloc: Global, case: &Case, bytes: &[u8]) -> Result<List<StudyCom
 
 /// Returns what a study answers to a case, commands and kept looks. It takes from the commands only after a case that it can
 /// take, and asks the keeper only after all commands are accepted.
-#[tactic(auto, using(graph_cli::proofs::Taken::untouched), unfolding(crate::specs::StudyOutcome::study_call))]
+#[tactic(auto, using(graph_cli::proofs::Taken::untouched, answers::proofs::Stopping::concluded), unfolding(crate::specs::StudyOutcome::study_call))]
 fn study_call<S: Source, T: Source, K: Keeper>(
     alloc: Global,
     call: &StudyCall<'_>,
@@ -99,7 +99,7 @@ fn study_call<S: Source, T: Source, K: Keeper>(
 }
 
 /// Returns what these words, this case, these commands and the looks of this keeper call for.
-#[tactic(auto, using(graph_cli::proofs::Taken::untouched))]
+#[tactic(auto, using(graph_cli::proofs::Taken::untouched, crate::proofs::AskedStudies::unasked))]
 fn answer<S: Source, T: Source, K: Keeper>(
     alloc: Global,
     words: &[String],

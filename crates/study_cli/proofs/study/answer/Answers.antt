@@ -3,7 +3,7 @@ use Rattle.std.specs.Prelude.{string_bytes}
 use Rattle.answers.proofs.Stopping.{handed_on}
 use Rattle.command_words.specs.Asked.{study_asked}
 use Rattle.study_answers.proofs.Looks.{with_none}
-use Rattle.study_cli.proofs.AskedStudies.{asked_ends, unasked}
+use Rattle.study_cli.proofs.AskedStudies.{asked_ends}
 use Rattle.study_cli.proofs.study.answer.Goals as goal
 
 pub returns-in_err-usage-in-Err-clause-ends : goal.returns-in_err-usage-in-Err-clause-ends
@@ -31,9 +31,3 @@ returns-in-Ok-clause-turns g c = inr (study_asked c.in-Ok.call, sym c.in-Ok.ensu
 pub returns-in-Ok-clause-commands_asked : goal.returns-in-Ok-clause-commands_asked
 returns-in-Ok-clause-commands_asked g c = λ reads none. c.study_call.ensures.commands_asked
     (λ r. none (study_asked c.in-Ok.call, sym c.in-Ok.ensures, r))
-
-pub returns-in_err-usage-in-Err-clause-commands_asked : goal.returns-in_err-usage-in-Err-clause-commands_asked
-returns-in_err-usage-in-Err-clause-commands_asked g c = λ reads none. absurd (unasked (map string_bytes c.args.words.now) reads.0 c.in-Err.n reads.1 (sym c.in-Err.ensures))
-
-pub returns-in_ok-usage-in-Err-clause-commands_asked : goal.returns-in_ok-usage-in-Err-clause-commands_asked
-returns-in_ok-usage-in-Err-clause-commands_asked g c = λ reads none. absurd (unasked (map string_bytes c.args.words.now) reads.0 c.in-Err.n reads.1 (sym c.in-Err.ensures))

@@ -1,5 +1,5 @@
 use Rattle.std.proofs.Common.{refl, inr}
-use Rattle.answers.proofs.Stopping.{handed_on, concluded, unrefused_handed_on}
+use Rattle.answers.proofs.Stopping.{handed_on, unrefused_handed_on}
 use Rattle.case_model.specs.CaseView.{content}
 use Rattle.case_model.specs.Content.{Content}
 use Rattle.command_words.specs.Asked.{study_asked}
@@ -80,12 +80,3 @@ pub returns-in_err-accepted-clause-commands_asked : goal.returns-in_err-accepted
 returns-in_err-accepted-clause-commands_asked g c = λ none. unrefused_handed_on {A = Content} _
     (case_of (study_asked c.args.call.now) (g.S.Source.left c.args.case.now)) _ _ _ c.in_err-accepted.field-0.0 c.from_residual.ensures.1
     (λ q h. none (q, h)) (rw c.study_needs.ensures at c.in_err-accepted.ensures.ends)
-
-pub returns-in_err-bytes-clause-commands_asked : goal.returns-in_err-bytes-clause-commands_asked
-returns-in_err-bytes-clause-commands_asked g c = λ none. concluded _ _ c.in_err-bytes.ensures.asked
-
-pub returns-in_err-list-clause-commands_asked : goal.returns-in_err-list-clause-commands_asked
-returns-in_err-list-clause-commands_asked g c = λ none. concluded _ _ c.in_ok-bytes.ensures.asked
-
-pub returns-clause-commands_asked : goal.returns-clause-commands_asked
-returns-clause-commands_asked g c = λ none. concluded _ _ c.in_ok-bytes.ensures.asked
