@@ -95,6 +95,7 @@ fn put_number<F: WrittenNumber>(
 }
 
 /// Appends the numbers of a component, one for each of these steps.
+#[tactic(auto, using(evidence_check::proofs::ReadAnswers::known_at))]
 fn put_numbers<F: WrittenNumber>(
     text: &mut List<u8>,
     case: &Case,

@@ -3,15 +3,10 @@ use Rattle.case_model.specs.CaseView.{content}
 use Rattle.evidence_check.specs.EvidenceView.{hypotheses_of}
 use Rattle.evidence_check.specs.DocumentLines.{number_words}
 use Rattle.evidence_check.proofs.Hypotheses.{as_many}
-use Rattle.evidence_check.proofs.ReadAnswers.{known_at}
 use Rattle.evidence.specs.EvidenceText.{line_text}
 use Rattle.evidence_check.specs.NumberReading.{case_frame}
 use Rattle.evidence.proofs.WriterAnswers.{mapped_item, mapped_within, numbers_next, numbers_end}
 use Rattle.evidence.proofs.writer.put_numbers.Goals as goal
-
-pub put_number-requires-clause-hypothesis : goal.put_number-requires-clause-hypothesis
-put_number-requires-clause-hypothesis g c = known_at (length (content c.args.case.now).names) c.args.steps.now c.loop-e.e c.index-steps-e.result
-    c.loop-e-test.true c.requires.known
 
 pub loop-e-preserved : goal.loop-e-preserved
 loop-e-preserved g c =
