@@ -29,6 +29,7 @@ use Rattle.field_core.specs.Exact.{IsExact, value_of}
 use Rattle.case_model.specs.IntersectionWeight.{IsIntersectionWeight}
 use Rattle.case_model.specs.ClosedTest.{Passes, IsLegal}
 use Rattle.case_model.specs.LegalOrder.{IsLegalOrder, IsComplete}
+use Rattle.case_model.proofs.LegalSteps.{after_append}
 use Rattle.case_model.proofs.ClosedTestLaws.{legal_passes, passes_legal}
 use Rattle.case_model.proofs.RejectionOrders.{left_append, left_not_listed, not_listed_left, order_distinct}
 use Rattle.field_core.specs.Steps.{◌>>=◌}
@@ -41,7 +42,7 @@ use Rattle.entangled.specs.Bundled.{Bundled, states_size, opened, removed}
 use Rattle.entangled.specs.BundleRun.{opened_after, AreReady, by_value}
 use Rattle.entangled.proofs.Steps.{in_component_ok}
 use Rattle.entangled.proofs.EachNet.{IsLater, run_says}
-use Rattle.entangled.proofs.FirstNets.{some_net, net_before, graph_before, AreFirst, first_nets}
+use Rattle.entangled.proofs.FirstNets.{some_net, net_before, graph_before, first_nets}
 use Rattle.evidence_check.specs.Evidence.{at_place, brought, leaving, allowed, shared, listed, AreFlows, AreExits, IsGoodStep, AreGoodSteps, IsGoodKeep}
 use Rattle.evidence_check.proofs.Hypotheses.{one_longer}
 use Rattle.evidence_check.proofs.Places.{place_below, place_listed, order_in}
@@ -59,10 +60,6 @@ abbrev value_at : Kind → List (List Parts) → ℕ → ℕ → Number
 value_at K xs c e = value_of (part_at K xs c e)
 
 -- ---- runs with one more
-
-pub after_append : (js ks : List ℕ) (A : Graph Number) → after number_field A (js ++ ks) ≡ after number_field (after number_field A js) ks
-after_append [] ks A = refl
-after_append (j ∷ js) ks A = after_append js ks (without number_field A j)
 
 pub order_more : (m : ℕ) (js : List ℕ) (j : ℕ) (I : ℕ → Bool) → IsOrder m I js → IsIn m (left_after I js) j → IsOrder m I (js ++ j ∷ [])
 order_more m [] j I o p = (p, tt)
@@ -125,8 +122,7 @@ module _ {S : Type 0} (K : Kind) (IsStored : Parts → Type 0) (X : IsExact K Is
   abbrev pub first_graph : ℕ → Graph Number
   first_graph = graph_before K graph IsProper states shares R
 
-  first : AreFirst K graph IsProper states shares R IsStored removal E
-  first = first_nets K graph IsProper states shares R IsStored removal E
+  open first_nets K graph IsProper states shares R IsStored removal E use {graph_is, valid, stands}
 
   -- ---- orders of removals
 
@@ -147,7 +143,7 @@ module _ {S : Type 0} (K : Kind) (IsStored : Parts → Type 0) (X : IsExact K Is
     unfolding by_value
     weight_is k i = record {
       weight = λ c. (after number_field ((by_value K graph states shares).graph c) earlier).weight k;
-      is_weight = λ c p. order_weight number_field m _ (subst (IsValid number_field m) (sym (first.graph_is c p)) (first.valid c p))
+      is_weight = λ c p. order_weight number_field m _ (subst (IsValid number_field m) (sym (graph_is c p)) (valid c p))
           (left_after whole earlier) earlier k o (λ _ _. refl) i;
       sum = refl;
     }
@@ -197,8 +193,8 @@ module _ {S : Type 0} (K : Kind) (IsStored : Parts → Type 0) (X : IsExact K Is
                 (leaving_is (at_place earlier r) ∙ sym (hold.exits.solves k (at_place earlier r) W (gone (at_place earlier r) (gone_place r h)))
                 ∙ sym (exit_is r h));
             bounded = at_most_trans _ _ _ (at_most_equal _ _ allowed_now)
-                (weight_unit m (first_graph c) (left_after whole earlier) k _ (first.valid c q) W
-                (order_weight number_field m (first_graph c) (first.valid c q) (left_after whole earlier) earlier k o (λ _ _. refl) W)).high;
+                (weight_unit m (first_graph c) (left_after whole earlier) k _ (valid c q) W
+                (order_weight number_field m (first_graph c) (valid c q) (left_after whole earlier) earlier k o (λ _ _. refl) W)).high;
           }
             where
               gone_place : (r : ℕ) → r < length earlier → set_of earlier (at_place earlier r) ≡ true
@@ -209,7 +205,7 @@ module _ {S : Type 0} (K : Kind) (IsStored : Parts → Type 0) (X : IsExact K Is
         unfolding by_value kept_exits
         good_keep p level complete = record {
           below = W.below;
-          exits = λ c q. subst (λ A. AreExits A earlier k (value_at K (kept_exits K ts earlier k).exits c)) (sym (first.graph_is c q)) (are_exits c q);
+          exits = λ c q. subst (λ A. AreExits A earlier k (value_at K (kept_exits K ts earlier k).exits c)) (sym (graph_is c q)) (are_exits c q);
           fails = λ h. complete k (passes_legal (by_value K graph states shares) p level (left_after whole earlier) k _ W (weight_is k W)
               (subst (λ u. Passes (p k) u level) (sym (sum_congr number_field (length states) _ _ each)) h));
         }
@@ -219,7 +215,7 @@ module _ {S : Type 0} (K : Kind) (IsStored : Parts → Type 0) (X : IsExact K Is
                 (allowed ((by_value K graph states shares).graph c) earlier (value_at K (kept_exits K ts earlier k).exits c) k)
             each c q = ap (λ x. (by_value K graph states shares).share c *ε limit x) (
                 subst (λ A. (after number_field A earlier).weight k ≡ allowed A earlier (value_at K (kept_exits K ts earlier k).exits c) k)
-                (sym (first.graph_is c q)) (sym (allowed_now c q)))
+                (sym (graph_is c q)) (sym (allowed_now c q)))
 
   module _ (is_kept : Bool) where
     -- the state of a run after the steps of `earlier`
@@ -240,14 +236,14 @@ module _ {S : Type 0} (K : Kind) (IsStored : Parts → Type 0) (X : IsExact K Is
           (graph_at (map graph b.states) c)
       unfolding net_before
       shows c p =
-          let D = in_turn K IsStored graph IsProper removal E m earlier whole (first_graph c) (before c) (get_or b.states c d) (first.stands c p) T.order
+          let D = in_turn K IsStored graph IsProper removal E m earlier whole (first_graph c) (before c) (get_or b.states c d) (stands c p) T.order
           (later.each c d p) in
           let e = get_or-map graph b.states c d no_graph (subst (λ n. c < n) (sym later.as_many) p) in
           subst (Shows K IsStored X m (left_after whole earlier) (after number_field (first_graph c) earlier)) (sym e)
           (record { same_size = D.same_size; live = D.live; value = D.value; stored = E.stored (get_or b.states c d) D.proper })
 
       valid_now : (c : ℕ) → c < length states → IsValid number_field m (after number_field (first_graph c) earlier)
-      valid_now c p = (order_reached number_field m (first_graph c) (first.valid c p) earlier T.order).valid
+      valid_now c p = (order_reached number_field m (first_graph c) (valid c p) earlier T.order).valid
 
       module _ (p : ℕ → Number) (level : Number) (j : ℕ) (legal : IsLegal (by_value K graph states shares) p level (left_after whole earlier) j) where
         J : IsIn m (left_after whole earlier) j
@@ -302,7 +298,7 @@ module _ {S : Type 0} (K : Kind) (IsStored : Parts → Type 0) (X : IsExact K Is
         good_step = record {
           below = J.below;
           new = left_not_listed earlier whole j J.member;
-          flows = λ c q. subst (λ A. AreFlows A earlier (value_at K (recorded K ts earlier j).flows c)) (sym (first.graph_is c q)) (are_flows c q);
+          flows = λ c q. subst (λ A. AreFlows A earlier (value_at K (recorded K ts earlier j).flows c)) (sym (graph_is c q)) (are_flows c q);
           passes = subst (λ u. Passes (p j) u level) (sum_congr number_field (length states) _ _ each)
               (legal_passes (by_value K graph states shares) p level (left_after whole earlier) j _ legal (weight_is earlier T.order j J));
         }
@@ -312,7 +308,7 @@ module _ {S : Type 0} (K : Kind) (IsStored : Parts → Type 0) (X : IsExact K Is
                 (brought ((by_value K graph states shares).graph c) earlier (value_at K (recorded K ts earlier j).flows c) j)
             each c q = ap (λ x. (by_value K graph states shares).share c *ε limit x) (
                 subst (λ A. (after number_field A earlier).weight j ≡ brought A earlier (value_at K (recorded K ts earlier j).flows c) j)
-                (sym (first.graph_is c q)) (sym (brought_now c q)))
+                (sym (graph_is c q)) (sym (brought_now c q)))
 
     -- ---- the run
 
@@ -363,7 +359,7 @@ module _ {S : Type 0} (K : Kind) (IsStored : Parts → Type 0) (X : IsExact K Is
       left_is = left_append earlier (j ∷ []) whole
 
       after_is : (c : ℕ) → after number_field (first_graph c) (earlier ++ j ∷ []) ≡ without number_field (after number_field (first_graph c) earlier) j
-      after_is c = after_append earlier (j ∷ []) (first_graph c)
+      after_is c = after_append number_field earlier (j ∷ []) (first_graph c)
 
       reached_next : opened_after K graph removal states shares (earlier ++ j ∷ []) ≡ Ok e
       unfolding opened_after
@@ -473,7 +469,7 @@ module _ {S : Type 0} (K : Kind) (IsStored : Parts → Type 0) (X : IsExact K Is
             exits = λ w c q. subst (λ I. HoldExits K IsStored X m (first_graph c) (left_after I (k ∷ js))
                 (after number_field (without number_field (after number_field (first_graph c) earlier) j) (k ∷ js)) (tables_at a.rest.tables c)) left
                 (subst (λ A. HoldExits K IsStored X m (first_graph c) (left_after (left_after whole (earlier ++ j ∷ [])) (k ∷ js))
-                (after number_field A (k ∷ js)) (tables_at a.rest.tables c)) (after_append earlier (j ∷ []) (first_graph c)) (G.exits w c q));
+                (after number_field A (k ∷ js)) (tables_at a.rest.tables c)) (after_append number_field earlier (j ∷ []) (first_graph c)) (G.exits w c q));
           })
 
       -- ---- from the opening on
@@ -488,9 +484,9 @@ module _ {S : Type 0} (K : Kind) (IsStored : Parts → Type 0) (X : IsExact K Is
         reached = ap (λ r. r >>= (λ v. removed_in_turn (removed K graph removal) v [])) h ∙ turn_end (removed K graph removal) b;
         count = length-replicate (length states) (first_tables K m);
         flows = λ c q. subst (HoldFlows K IsStored X m (first_graph c) whole (first_graph c)) (sym (tables_first c q))
-            (first_flows K IsStored X m (first_graph c) (first.valid c q));
+            (first_flows K IsStored X m (first_graph c) (valid c q));
         exits = λ _ c q. subst (HoldExits K IsStored X m (first_graph c) whole (first_graph c)) (sym (tables_first c q))
-            (first_exits K IsStored X m (first_graph c) (first.valid c q));
+            (first_exits K IsStored X m (first_graph c) (valid c q));
       }
 
       pub whole_run : (js : List ℕ) (b : Bundled S) (r : FlowRun) → IsLegalOrder (by_value K graph states shares) p level whole js

@@ -1,5 +1,5 @@
 -- The rows after a step, written number by number.
-use Rattle.std.proofs.Common.{◌≡◌, refl, ap, ◌∙◌, ℕ, ◌+◌, Bool, true, false, not, List, [], ◌∷◌, ◌++◌, Some, None, Result, Ok, Err}
+use Rattle.std.proofs.Common.{◌≡◌, refl, ap, ◌∙◌, ℕ, ◌+◌, Bool, false, not, List, [], ◌∷◌, ◌++◌, Some, None, Result, Ok, Err}
 use Rattle.std.proofs.Common.{map, set}
 use Rattle.field_core.specs.declared.place.Wide.{Wide}
 use Rattle.field_core.specs.Kind.{Parts, Kind}
@@ -60,24 +60,14 @@ module _ (K : Kind) (G : StoredGraph) (j : ℕ) (earlier : List ℕ) where
       flows_done x g = put_then (new_flow K G j (row visits j) ys) earlier [] j ys zs x h g ∙ put_nil (new_flow K G j (row visits j) ys) (set zs j x)
 
   module _ (visits : List (List Parts)) (l : ℕ) where
-    pub visits_gone : is_gone G j l ≡ true → new_visits K G j earlier visits l ≡ Ok (row visits l)
-    unfolding new_visits
-    visits_gone h = rw h refl
-
     module _ (stays : is_gone G j l ≡ false) where
       visits_by : new_visits K G j earlier visits l ≡ (divisor K G j l >>= new_visits_by K G j earlier visits l)
       unfolding new_visits
       visits_by = rw stays refl
 
-      pub visits_refused : (w : Wide) → divisor K G j l ≡ Err w → new_visits K G j earlier visits l ≡ Err w
-      visits_refused w h = visits_by ∙ ap (λ r. r >>= new_visits_by K G j earlier visits l) h
-
       pub visits_none : divisor K G j l ≡ Ok None → new_visits K G j earlier visits l ≡ Ok (map (λ x. K.zero) (row visits l))
       unfolding new_visits_by
       visits_none h = visits_by ∙ ap (λ r. r >>= new_visits_by K G j earlier visits l) h
-
-      pub visits_some : (d : Parts) → divisor K G j l ≡ Ok (Some d) → new_visits K G j earlier visits l ≡ new_visits_by K G j earlier visits l (Some d)
-      visits_some d h = visits_by ∙ ap (λ r. r >>= new_visits_by K G j earlier visits l) h
 
     module _ (d : Parts) where
       abbrev visit : ℕ → Result Parts Wide
