@@ -7,8 +7,6 @@ use Rattle.field_core.specs.declared.ratio.Ratio.{Ratio}
 use Rattle.field_core.proofs.Live.{true_or_false}
 use Rattle.fraction.specs.Plain.{IsFraction, pair_of, fraction_parts}
 use Rattle.fraction.specs.View.{number_of}
-use Rattle.eps_quotient.specs.declared.quotient.EpsQuotient.{EpsQuotient}
-use Rattle.eps_quotient.specs.Laws.Exact.{some_below}
 use Rattle.eps_quotient.specs.Stored.{IsQuotient}
 use Rattle.eps_quotient.specs.View.{quotient_parts}
 use Rattle.case_model.specs.Content.{Content, is_plain}
@@ -26,6 +24,7 @@ use Rattle.evidence_check.specs.declared.evidence.KeepProof.{KeepProof}
 use Rattle.evidence_check.specs.declared.evidence.ProofStep.{ProofStep}
 use Rattle.evidence_check.specs.declared.evidence.Steps.{Steps}
 use Rattle.evidence_check.proofs.CheckAnswers.{fractions_of, quotients_of}
+use Rattle.evidence_check.proofs.TypedNumbers.{held_quotient}
 use Rattle.evidence.specs.CaseFlows.{IsCompleteOrder, case_flows}
 use Rattle.evidence.specs.FlowRun.{WideStep, WrittenEvidence}
 use Rattle.evidence.specs.Made.{written_evidence}
@@ -38,14 +37,6 @@ use Rattle.answers_exist.proofs.Results.{value_or_fault}
 -- a stored fraction is one of the program's
 held_fraction : (x : Parts) → IsFraction x → (z : Ratio) × (fraction_parts z ≡ x)
 held_fraction x f = (record { num = (pair_of x).num; den = (pair_of x).den; valid = f.reduced }, sym f.shape)
-
-quotient_with : (x : Parts) → IsQuotient x → EpsQuotient
-quotient_with x s = record { pair = record { numerator = x.numerator; denominator = x.denominator; some = some_below x s }; stored = s }
-
--- so is a stored quotient
-held_quotient : (x : Parts) → IsQuotient x → (z : EpsQuotient) × (quotient_parts z ≡ x)
-unfolding quotient_with
-held_quotient x s = (quotient_with x s, refl)
 
 -- ---- steps and keeps
 

@@ -26,8 +26,8 @@ use Rattle.evidence_check.specs.declared.quantity.Quantity.{Quantity}
 use Rattle.evidence_check.specs.declared.quantity.Quantity.TheVariants.{Flow, Exit}
 use Rattle.evidence_check.specs.EvidenceParts.{StepParts, KeepParts}
 use Rattle.evidence_check.specs.NumberReading.{case_frame}
-use Rattle.evidence_check.specs.DocumentLines.{Words, Frame, kinds, keyword, nothing, version_line, step_line, number_line, keep_line, end_line}
-use Rattle.evidence_check.specs.DocumentLines.{step_words, number_words, keep_words, end_words}
+use Rattle.evidence_check.specs.DocumentLines.{Words, Frame, kinds, nothing, version_line, step_line, number_line, keep_line, end_line}
+use Rattle.evidence_check.specs.DocumentLines.{number_words, keep_words, end_words}
 use Rattle.evidence_check.specs.Document.{numbers, named, step, keep, kept, last, document}
 use Rattle.evidence_check.specs.DocumentStatements.{case_reading, IsPrinted, FaultsAreFirst, FaultsAreWhereNoneGoesOn, NoneGoesOnIsFault}
 use Rattle.text_lines.specs.FormStatements.{IsFirstWrong, NoneGoesOnIsFault as FirstIsFault}

@@ -13,11 +13,10 @@ use Rattle.std.proofs.lemmas.List.Quantifiers.{position-Some}
 use Rattle.field_core.specs.Kind.{Parts}
 use Rattle.field_core.specs.Sets.{set_of}
 use Rattle.text_lines.specs.Words.{words_behind, only_word, only_three}
-use Rattle.text_lines.specs.Forms.{Leaf, Line, Seen, Is, AreMany, IsDocument}
-use Rattle.text_lines.specs.Kinds.{words_after, each_of}
+use Rattle.text_lines.specs.Forms.{Line, Seen, Is, AreMany, IsDocument}
+use Rattle.text_lines.specs.Kinds.{words_after}
 use Rattle.text_lines.proofs.EachSaid.{Pairs, pairs_length, pairs_all, pairs_map, each_said}
 use Rattle.case_model.specs.Content.{Content}
-use Rattle.case_model.specs.Names.{position_of}
 use Rattle.case_numbers.specs.Numbers.{Numbers}
 use Rattle.evidence_check.specs.declared.fault.ProofKind.{ProofKind}
 use Rattle.evidence_check.specs.declared.fault.ProofKind.TheVariants.{Unexpected, WordCount, Version, UnknownName, Number}

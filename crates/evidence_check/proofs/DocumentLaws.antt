@@ -1,5 +1,5 @@
 -- What is read of a text for a case.
-use Rattle.std.proofs.Common.{◌≡◌, sym, ap, ap₂, ◌∙◌, subst, inl, inr, true, false, ℕ, List, Some, Result, Ok, Err}
+use Rattle.std.proofs.Common.{◌≡◌, sym, ap, ap₂, ◌∙◌, subst, inl, inr, ℕ, List, Some, Result, Ok, Err}
 use Rattle.std.specs.Result.{IsErrAnd}
 use Rattle.text_lines.specs.Lines.{rows_of, end_of}
 use Rattle.text_lines.specs.Faults.{FaultAt}
@@ -26,7 +26,7 @@ use Rattle.evidence_check.specs.NumberReading.{number_in_text, case_frame}
 use Rattle.evidence_check.specs.ReadView.{proof_fault, said_in}
 use Rattle.evidence_check.specs.DocumentStatements.{evidence_reading, case_reading, said_of, SaysEvidence, HasFault, ReadingsAreEvidence}
 use Rattle.evidence_check.proofs.CheckAnswers.{fractions_of, quotients_of}
-use Rattle.evidence_check.proofs.DocumentFits.{DocumentSaid, document_said, said_fits, flows_all, exits_all}
+use Rattle.evidence_check.proofs.DocumentFits.{document_said, said_fits, flows_all, exits_all}
 use Rattle.evidence_check.proofs.SaidEvidence.{Typed, said_typed}
 use Rattle.evidence_check.proofs.TypedNumbers.{fraction_found, quotient_found}
 

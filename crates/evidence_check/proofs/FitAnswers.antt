@@ -52,9 +52,6 @@ module _ {F : Type 0} (parts : F → Parts) where
       pub all : StepsFit i → StepsFit 0
       pub rest : StepsFit 0 → StepsFit i
 
-    pub steps_whole : StepsLeft 0
-    steps_whole = record { all = λ h. h; rest = λ h. h }
-
     module _ (i : ℕ) (s : ProofStep F) (p : i < length steps) (h : s ≡ get_or steps i s) (L : StepsLeft i) where
       abbrev StepFits : Type 0
       StepFits = (s.hypothesis < m) × AreFull components i (map (map parts) s.flows)
@@ -84,10 +81,6 @@ module _ {F : Type 0} (parts : F → Parts) where
       pub steps_refused : ¬ StepFits → ¬ StepsFit 0
       steps_refused n w = n (parted (L.rest w)).0
 
-    pub steps_all : (i : ℕ) → i ≡ length steps → StepsLeft i → StepsFit 0
-    steps_all i e L = L.all (subst (λ ss. All (λ s. s.hypothesis < m) (map (step_parts parts) ss) × FlowsFit components i (map (step_parts parts) ss))
-        (sym (drop_end steps i e)) (All-nil (λ s. s.hypothesis < m), tt))
-
   module _ (m components count : ℕ) (keeps : List (KeepProof F)) where
     -- the keeps from a place on fit
     abbrev pub KeepsFit : ℕ → Type 0
@@ -97,9 +90,6 @@ module _ {F : Type 0} (parts : F → Parts) where
     pub record KeepsLeft (i : ℕ) : Type 0 where
       pub all : KeepsFit i → KeepsFit 0
       pub rest : KeepsFit 0 → KeepsFit i
-
-    pub keeps_whole : KeepsLeft 0
-    keeps_whole = record { all = λ h. h; rest = λ h. h }
 
     module _ (i : ℕ) (x : KeepProof F) (p : i < length keeps) (h : x ≡ get_or keeps i x) (L : KeepsLeft i) where
       abbrev KeepFits : Type 0
@@ -129,10 +119,6 @@ module _ {F : Type 0} (parts : F → Parts) where
 
       pub keeps_refused : ¬ KeepFits → ¬ KeepsFit 0
       keeps_refused n w = n (keep_parted (L.rest w)).0
-
-    pub keeps_all : (i : ℕ) → i ≡ length keeps → KeepsLeft i → KeepsFit 0
-    keeps_all i e L = L.all (subst (λ xs. All (λ x. x.hypothesis < m) (map (keep_parts parts) xs) × ExitsFit components count (map (keep_parts parts) xs))
-        (sym (drop_end keeps i e)) (All-nil (λ x. x.hypothesis < m), tt))
 
 -- the hypotheses of keeps
 abbrev pub kept_of : {F : Type 0} → List (KeepProof F) → List ℕ

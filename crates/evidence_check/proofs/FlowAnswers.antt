@@ -27,13 +27,7 @@ module _ (K : Kind) (L : Loaded) (js : List ℕ) (y : ℕ → Parts) (c r : ℕ)
     tested : require test (Negative c r) ≡ require (not_less (sign_of (y r))) (Negative c r)
     tested = ap (λ b. require b (Negative c r)) (t ∙ ap (λ x. not_less (sign_of x)) f)
 
-    pub flow_negative : (e : CheckEvent) → require test (Negative c r) ≡ Err e → flow_check K L js y c r ≡ Err e
-    flow_negative e h = rw (flow_check_is, ← tested, h) refl
-
     module _ (u : Unit {0}) (d : require test (Negative c r) ≡ Ok u) where
-      pub sum_refused : (e : CheckEvent) → sum_at at ≡ Err e → flow_check K L js y c r ≡ Err e
-      sum_refused e h = rw (flow_check_is, ← tested, d, ← a, h) refl
-
       module _ (sum : Parts) (s : sum_at at ≡ Ok sum) where
         compared_is : written_at c (Bound at) (K.compare flow sum) ≡ written_at c (Bound (at_place js r)) (K.compare (y r) sum)
         compared_is = ap (λ i. written_at c (Bound i) (K.compare flow sum)) a ∙ ap (λ x. written_at c (Bound (at_place js r)) (K.compare x sum)) f

@@ -1,5 +1,6 @@
 -- Lines are read by forms, one after the other.
-use Rattle.std.proofs.Common.{◌≡◌, ◌⊎◌, inl, inr, refl, sym, ap, subst, ◌∙◌, ℕ, ◌<◌, ◌≤◌, List, [], ◌∷◌, ◌++◌, ◌+◌, drop, length, get_or, zero-add, Some, None, Result, Ok, Err, Bool, true, false, ◌-◌, ◌≢◌, if◌then◌else◌, arith}
+use Rattle.std.proofs.Common.{◌≡◌, ◌⊎◌, inl, inr, refl, sym, ap, subst, ◌∙◌, ℕ, ◌<◌, ◌≤◌, List, [], ◌∷◌, ◌++◌}
+use Rattle.std.proofs.Common.{◌+◌, drop, length, get_or, zero-add, Some, None, Result, Ok, Err, Bool, true, false, ◌-◌, ◌≢◌, if◌then◌else◌, arith}
 use Rattle.std.specs.Prelude.{◌==◌}
 use Rattle.std.specs.Result.{IsErrAnd}
 use Rattle.std.specs.List.{All, slice_get, range_with_len}
@@ -19,7 +20,7 @@ use Rattle.text_lines.specs.Lines.{Row}
 use Rattle.text_lines.specs.Words.{words_of}
 use Rattle.text_lines.proofs.FormReads.{go_on, read_say}
 use Rattle.text_lines.proofs.FormLines.{each_taken, each_refused}
-use Rattle.text_lines.proofs.Steps.{line_taken, line_refused, then_on, then_failed, maybe_taken, maybe_other, maybe_refused, many_on, many_done, many_failed, read_shorter}
+use Rattle.text_lines.proofs.Steps.{line_taken, line_refused, then_on, then_failed, maybe_taken, many_on, many_done, many_failed, read_shorter}
 use Rattle.case_model.specs.Content.{Content}
 use Rattle.case_numbers.specs.Numbers.{Numbers}
 use Rattle.evidence_check.specs.declared.evidence.ProofStep.{ProofStep}
@@ -28,13 +29,13 @@ use Rattle.evidence_check.specs.declared.fault.ProofKind.TheVariants.{Ended}
 use Rattle.evidence_check.specs.declared.fault.ProofText.{ProofText}
 use Rattle.evidence_check.specs.declared.fault.ProofText.TheVariants as faults
 use Rattle.evidence_check.specs.declared.quantity.Quantity.TheVariants.{Flow, Exit}
-use Rattle.evidence_check.specs.EvidenceParts.{StepParts, KeepParts}
+use Rattle.evidence_check.specs.EvidenceParts.{StepParts}
 use Rattle.evidence_check.specs.DocumentLines.{Words, Frame, kinds, keep_line}
 use Rattle.evidence_check.specs.Document.{Lines, numbers, named, step, keep, kept}
 use Rattle.evidence_check.specs.Evidence.{others}
 use Rattle.evidence_check.specs.EvidenceView.{hypotheses_of}
 use Rattle.evidence_check.specs.NumberReading.{case_frame}
-use Rattle.evidence_check.specs.ReadView.{proof_fault, Reads}
+use Rattle.evidence_check.specs.ReadView.{proof_fault}
 use Rattle.evidence_check.proofs.FitAnswers.{others_from}
 use Rattle.evidence_check.proofs.Hypotheses.{as_many}
 
@@ -157,19 +158,6 @@ module _ {A : Type 0} (l : Leaf Words ProofKind A) (left : Left) where
   pub found_one : (row : Row) (new : Left) (a : A) → left.rows ≡ row ∷ new.rows → if_any (l (words_of row.text)) ≡ Ok (Some a) → Gives (maybe l) left (Some a) new
   found_one row new a r e = ap (told_as proof_fault) (ap (λ rs. read kinds (maybe l) (words_seen rs) left.end) r
       ∙ maybe_taken kinds l (record { number = row.number; line = words_of row.text }) (words_seen new.rows) left.end a e)
-
-  pub found_other : (row : Row) (rows : List Row) → left.rows ≡ row ∷ rows → if_any (l (words_of row.text)) ≡ Ok None → Gives (maybe l) left None left
-  found_other row rows r e = ap (told_as proof_fault) (ap (λ rs. read kinds (maybe l) (words_seen rs) left.end) r
-      ∙ maybe_other kinds l (record { number = row.number; line = words_of row.text }) (words_seen rows) left.end e)
-      ∙ ap (λ rs. Ok (None, words_seen rs)) (sym r)
-
-  pub found_none : left.rows ≡ [] → Gives (maybe l) left None left
-  found_none r = ap (λ rs. told_as proof_fault (read kinds (maybe l) (words_seen rs) left.end)) r ∙ ap (λ rs. Ok (None, words_seen rs)) (sym r)
-
-  pub found_bad : (row : Row) (rows : List Row) (kind : ProofKind) → left.rows ≡ row ∷ rows → if_any (l (words_of row.text)) ≡ Err kind
-      → Fails (reads (maybe l) left) (faults.Line row.number kind)
-  found_bad row rows kind r e = inr (ap (told_as proof_fault) (ap (λ rs. read kinds (maybe l) (words_seen rs) left.end) r
-      ∙ maybe_refused kinds l (record { number = row.number; line = words_of row.text }) (words_seen rows) left.end kind e))
 
 -- ---- a step, and a keep
 

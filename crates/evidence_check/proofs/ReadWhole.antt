@@ -1,5 +1,5 @@
 -- A whole document is read.
-use Rattle.std.proofs.Common.{◌≡◌, inl, inr, sym, ap, ap₂, ◌∙◌, ℕ, List, [], ◌∷◌, Result, Ok, Err, refl}
+use Rattle.std.proofs.Common.{◌≡◌, inr, sym, ap, ap₂, ◌∙◌, ℕ, List, [], ◌∷◌, Result, Ok, Err}
 use Rattle.field_core.specs.Answers.{and_then, told_as}
 use Rattle.field_core.proofs.Results.{same_fault}
 use Rattle.text_lines.specs.Faults.{FaultAt}
@@ -15,7 +15,7 @@ use Rattle.evidence_check.specs.DocumentLines.{Words, Frame, kinds, version_line
 use Rattle.evidence_check.specs.Document.{Said, named, step, keep, kept, last, document}
 use Rattle.evidence_check.specs.DocumentStatements.{evidence_reading}
 use Rattle.evidence_check.specs.ReadView.{proof_fault}
-use Rattle.evidence_check.proofs.ReadAnswers.{Fails, Gives, fails_too, told_value, reads, then_fails, then_reads}
+use Rattle.evidence_check.proofs.ReadAnswers.{Fails, Gives, fails_too, reads, then_fails, then_reads}
 
 module _ (T : Frame) (start : Left) where
   pub no_version : (fault : ProofText) → Fails (reads (Line version_line) start) fault → Fails (reads (document T) start) fault

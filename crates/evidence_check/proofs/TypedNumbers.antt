@@ -100,8 +100,10 @@ text_stored text x t =
 quotient_with : (x : Parts) → IsQuotient x → EpsQuotient
 quotient_with x s = record { pair = record { numerator = x.numerator; denominator = x.denominator; some = some_below x s }; stored = s }
 
-pub quotient_found : (text : List ℕ) (x : Parts) → number_in_text in_quotients text ≡ Some x → (z : EpsQuotient) × (quotient_parts z ≡ x)
+-- a stored quotient is one of the program's
+pub held_quotient : (x : Parts) → IsQuotient x → (z : EpsQuotient) × (quotient_parts z ≡ x)
 unfolding quotient_with
-quotient_found text x e =
-    let h = subst (IsNumberOf in_quotients text) e (number_is in_quotients text) in
-    (quotient_with x (text_stored text x h), refl)
+held_quotient x s = (quotient_with x s, refl)
+
+pub quotient_found : (text : List ℕ) (x : Parts) → number_in_text in_quotients text ≡ Some x → (z : EpsQuotient) × (quotient_parts z ≡ x)
+quotient_found text x e = held_quotient x (text_stored text x (subst (IsNumberOf in_quotients text) e (number_is in_quotients text)))

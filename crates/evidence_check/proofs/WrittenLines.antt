@@ -1,22 +1,21 @@
 -- The lines of evidence say it.
-use Rattle.std.proofs.Common.{◌≡◌, refl, sym, ap, subst, ◌∙◌, ℕ, suc, ◌+◌, List, [], ◌∷◌, ◌++◌, map, length, append_assoc, add-one, Some, None, Ok, inl, inr, arith}
-use Rattle.std.specs.Prelude.{◌⊎◌, codes}
-use Rattle.std.specs.Fmt.{decimal, digits}
+use Rattle.std.proofs.Common.{◌≡◌, refl, sym, ap, subst, ◌∙◌, ℕ, suc, ◌+◌, List, [], ◌∷◌, ◌++◌, map, length, append_assoc, add-one, Some, Ok, inl, inr, arith}
+use Rattle.std.specs.Prelude.{◌⊎◌}
+use Rattle.std.specs.Fmt.{digits}
 use Rattle.std.specs.List.{All, range_with_len}
 use Rattle.std.proofs.lemmas.List.{append-nil, length-map}
 use Rattle.std.proofs.lemmas.List.Elements.{All-head, All-tail}
-use Rattle.text_lines.specs.Forms.{Say, Line, Then, Many, Seen, Lacks, Is, AreMany, IsDocument}
+use Rattle.text_lines.specs.Forms.{Say, Line, Then, Seen, Lacks, Is, AreMany, IsDocument}
 use Rattle.text_lines.specs.Kinds.{each_of, each_after}
 use Rattle.text_lines.proofs.Written.{lines_in, Says, cut, first_of_lines, says_say, says_line, says_then, says_all}
 use Rattle.field_core.specs.Kind.{Parts}
-use Rattle.evidence_check.specs.declared.fault.ProofKind.{ProofKind}
 use Rattle.evidence_check.specs.declared.quantity.Quantity.{Quantity}
 use Rattle.evidence_check.specs.declared.quantity.Quantity.TheVariants.{Flow, Exit}
 use Rattle.evidence_check.specs.EvidenceParts.{StepParts, KeepParts, AreFull, FlowsFit, ExitsFit}
 use Rattle.evidence_check.specs.DocumentLines.{Words, Frame, version_line, step_line, number_line, keep_line, end_line}
 use Rattle.evidence_check.specs.DocumentLines.{version_words, step_words, number_words, keep_words, end_words}
 use Rattle.evidence_check.specs.EvidenceLines.{number_lines, list_lines, step_lines, keep_lines, evidence_lines}
-use Rattle.evidence_check.specs.Document.{Said, Lines, component_numbers, numbers, named, step, keep, kept, last, document}
+use Rattle.evidence_check.specs.Document.{component_numbers, numbers, named, step, keep, kept, last, document}
 use Rattle.evidence_check.specs.DocumentStatements.{IsPrinted, LinesSayTheirEvidence}
 use Rattle.evidence_check.proofs.Hypotheses.{one_longer}
 use Rattle.evidence_check.proofs.DocumentEnds.{number_back, keep_back}

@@ -1,4 +1,4 @@
-use Rattle.std.proofs.Common.{◌∙◌, sym, ap, subst, [], map}
+use Rattle.std.proofs.Common.{◌∙◌, ap, subst, map}
 use Rattle.text_lines.specs.Kinds.{each_of}
 use Rattle.case_model.specs.CaseView.{content}
 use Rattle.evidence_check.specs.Document.{keep, kept}
@@ -46,7 +46,9 @@ returns-in_err-end g c =
     let third = subst (λ hs. Gives (each_of (keep T hs) (kept T c.in_ok-version.version hs)) c.steps.new.lines xs c.kept.new.lines) js c.in_ok-keeps.ensures.said in
     handed _ c.from_residual-in_err-end.result c.in_err-end.field-0.0 _ c.from_residual-in_err-end.ensures.1
     (text_fails T c.args.bytes.now start c.new-lines.ensures.rows c.new-lines.ensures.end c.in_err-end.field-0.0
-    (no_end T start c.in_ok-version.version c.version.new.lines c.in_ok-version.ensures.said c.version.ensures.end ss c.steps.new.lines c.in_ok-steps.ensures.said c.steps.ensures.end xs c.kept.new.lines third c.kept.ensures.end c.in_err-end.field-0.0 c.in_err-end.ensures.said))
+    (no_end T start c.in_ok-version.version c.version.new.lines c.in_ok-version.ensures.said c.version.ensures.end
+    ss c.steps.new.lines c.in_ok-steps.ensures.said c.steps.ensures.end xs c.kept.new.lines third c.kept.ensures.end
+    c.in_err-end.field-0.0 c.in_err-end.ensures.said))
 
 pub returns-in_err-nothing_after : goal.returns-in_err-nothing_after
 returns-in_err-nothing_after g c =
@@ -56,7 +58,9 @@ returns-in_err-nothing_after g c =
     let js = ap hypotheses_of c.as_slice.ensures ∙ same_hypotheses g.F.Number.parts c.in_ok-steps.steps in
     let xs = map (keep_parts g.F.Number.parts) c.in_ok-keeps.keeps in
     let third = subst (λ hs. Gives (each_of (keep T hs) (kept T c.in_ok-version.version hs)) c.steps.new.lines xs c.kept.new.lines) js c.in_ok-keeps.ensures.said in
-    let all = all_lines T start c.in_ok-version.version c.version.new.lines c.in_ok-version.ensures.said c.version.ensures.end ss c.steps.new.lines c.in_ok-steps.ensures.said c.steps.ensures.end xs c.kept.new.lines third c.kept.ensures.end c.end.new.lines c.in_ok-end.ensures.said c.end.ensures.end in
+    let all = all_lines T start c.in_ok-version.version c.version.new.lines c.in_ok-version.ensures.said c.version.ensures.end
+    ss c.steps.new.lines c.in_ok-steps.ensures.said c.steps.ensures.end xs c.kept.new.lines third c.kept.ensures.end
+    c.end.new.lines c.in_ok-end.ensures.said c.end.ensures.end in
     handed _ c.from_residual-in_err-nothing_after.result c.in_err-nothing_after.field-0.0 _ c.from_residual-in_err-nothing_after.ensures.1
     (more_fails T c.args.bytes.now start c.new-lines.ensures.rows c.new-lines.ensures.end (record { version = c.in_ok-version.version; steps = ss; keeps = xs })
     c.end.new.lines.rows all c.in_err-nothing_after.field-0.0 c.in_err-nothing_after.ensures)
@@ -69,6 +73,8 @@ returns g c =
     let js = ap hypotheses_of c.as_slice.ensures ∙ same_hypotheses g.F.Number.parts c.in_ok-steps.steps in
     let xs = map (keep_parts g.F.Number.parts) c.in_ok-keeps.keeps in
     let third = subst (λ hs. Gives (each_of (keep T hs) (kept T c.in_ok-version.version hs)) c.steps.new.lines xs c.kept.new.lines) js c.in_ok-keeps.ensures.said in
-    let all = all_lines T start c.in_ok-version.version c.version.new.lines c.in_ok-version.ensures.said c.version.ensures.end ss c.steps.new.lines c.in_ok-steps.ensures.said c.steps.ensures.end xs c.kept.new.lines third c.kept.ensures.end c.end.new.lines c.in_ok-end.ensures.said c.end.ensures.end in
+    let all = all_lines T start c.in_ok-version.version c.version.new.lines c.in_ok-version.ensures.said c.version.ensures.end
+    ss c.steps.new.lines c.in_ok-steps.ensures.said c.steps.ensures.end xs c.kept.new.lines third c.kept.ensures.end
+    c.end.new.lines c.in_ok-end.ensures.said c.end.ensures.end in
     text_read T c.args.bytes.now start c.new-lines.ensures.rows c.new-lines.ensures.end (record { version = c.in_ok-version.version; steps = ss; keeps = xs })
     c.end.new.lines.rows all c.in_ok-nothing_after.ensures
