@@ -12,7 +12,7 @@ use Rattle.command_words.specs.Asked.{Written, text, csv, json}
 use Rattle.edge_text.proofs.TextLaws.{one_draft, one_first_fault, not_both}
 use Rattle.field_core.specs.View.{terms}
 use Rattle.field_core.specs.declared.ratio.Ratio.{Ratio}
-use Rattle.field_core.proofs.Results.{came_from, same_value, same_fault}
+use Rattle.field_core.proofs.Results.{came_from, same_value, same_fault, one_some}
 use Rattle.fraction.proofs.SameRatios.{same_ratio}
 use Rattle.case_csv.specs.Answers.{RowFault}
 use Rattle.case_csv.specs.Table.{Cells, cells_of, sheet_of, IsTable}
@@ -20,7 +20,6 @@ use Rattle.case_json.specs.Values.{IsJson}
 use Rattle.case_json.specs.Reading.{SaysDraft, HasFirstFault}
 use Rattle.case_json.specs.Document.{document_of}
 use Rattle.case_json.specs.declared.fault.JsonFault.{JsonFault}
-use Rattle.case_json.proofs.OneReading.{same_some}
 use Rattle.serde_json.specs.Data.{Data}
 use Rattle.serde_json.specs.Read.{read}
 use Rattle.refusals.specs.CaseRefusal.{case_refusal}
@@ -43,7 +42,7 @@ csv_not_both : (records : List Cells) (alpha : Ratio) (d : Draft) (f : RowFault)
 csv_not_both records alpha d f h k = let said = came_from (sheet_of records) _ d h in cc (sym said.1 ∙ k)
 
 same_document : (bytes : List ℕ) (u v : Data) → IsJson bytes u → IsJson bytes v → document_of u ≡ document_of v
-same_document bytes u v h k = ap document_of (same_some (read bytes) u v h.1 k.1)
+same_document bytes u v h k = ap document_of (one_some (read bytes) u v h.1 k.1)
 
 json_draft : (bytes : List ℕ) (d e : Draft) → SaysDraft bytes d → SaysDraft bytes e → d ≡ e
 json_draft bytes d e h k = same_value d e (sym h.2 ∙ same_document bytes h.0 k.0 h.1 k.1 ∙ k.2)
@@ -81,7 +80,7 @@ no_fault o x h k = cc
 faultless_decided : (d : Draft) → IsDecided (faultless d)
 faultless_decided d = record {
   one = λ c e h k. h.1 ∙ sym k.1;
-  one_refusal = λ r q h k. h.2 ∙ ap (case_refusal d.names) (same_some (case_fault d) h.0 k.0 h.1 k.1) ∙ sym k.2;
+  one_refusal = λ r q h k. h.2 ∙ ap (case_refusal d.names) (one_some (case_fault d) h.0 k.0 h.1 k.1) ∙ sym k.2;
   not_both = λ c r h k. no_fault (case_fault d) k.0 h.0 k.1;
 }
 

@@ -10,24 +10,16 @@ use Rattle.evidence_check.specs.declared.fault.ProofKind.{ProofKind}
 use Rattle.evidence_check.specs.declared.verdict.CheckWide.{CheckWide}
 use Rattle.evidence_check.specs.declared.verdict.Verdict.{Verdict}
 use Rattle.evidence_check.specs.declared.verdict.Verdict.TheVariants.{Yes, No}
-use Rattle.evidence_check.specs.EvidenceParts.{StepParts, KeepParts}
-use Rattle.evidence_check.specs.EvidenceView.{version_of, steps_of, keeps_of, IsEvidenceFor}
+use Rattle.evidence_check.specs.EvidenceView.{IsEvidenceFor}
 use Rattle.evidence_check.specs.CaseCheck.{case_check, verdict_of}
+pub use Rattle.evidence_check.specs.Document.{Said}
+pub use Rattle.evidence_check.specs.DocumentStatements.{said_of}
 use Rattle.evidence_check.specs.DocumentStatements.{SaysEvidence, HasFault}
 use Rattle.refusals.specs.ProofRefusal.{part_at, no_line}
 use Rattle.refusals.specs.declared.wide.When.TheVariants.{Check}
 use Rattle.report.specs.CheckReport.{check_report}
 use Rattle.graph_cli.specs.declared.trouble.Trouble.{Trouble}
 use Rattle.graph_cli.specs.declared.trouble.Trouble.TheVariants as troubles
-
--- evidence as a text says it: its version, its steps and its keeps
-pub record Said : Type 0 where
-  pub version : ℕ
-  pub steps : List StepParts
-  pub keeps : List KeepParts
-
-abbrev pub said_of : Evidence → Said
-said_of v = record { version = version_of v; steps = steps_of v; keeps = keeps_of v }
 
 -- the hypotheses of the steps, in their order
 abbrev pub listed_in : Said → List ℕ
