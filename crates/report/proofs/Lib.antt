@@ -6,4 +6,3 @@ pub mod LooksOfCase
 pub mod OfCase
 pub mod SetReports
 pub mod StageLines
-pub mod StudyLines

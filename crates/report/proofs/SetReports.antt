@@ -14,9 +14,9 @@ use Rattle.case_model.specs.ClosedTest.{only}
 use Rattle.case_model.specs.Content.{Content}
 use Rattle.closed_test.proofs.SetLists.{sets_unique}
 use Rattle.report.specs.WeightsReport.{member_weight, weight_if_member, members_line as weights_line, set_line, weights_report, IsWeightsReport}
-use Rattle.report.specs.BoundsReport.{name_if_member, members_line as bounds_line, bound_line, bounds_report, IsBoundsReport}
-use Rattle.report.specs.SimesReport.{first_set, top_line, top_lines, set_alone, name_if_alone, alone_line, simes_report, IsSimesReport}
-use Rattle.report.specs.TestReport.{spaced_name}
+use Rattle.report.specs.BoundsReport.{members_line as bounds_line, bound_line, bounds_report, IsBoundsReport}
+use Rattle.report.specs.SimesReport.{first_set, top_line, top_lines, set_alone, alone_line, simes_report, IsSimesReport}
+use Rattle.report.specs.TestReport.{name_if, names_where}
 use Rattle.report.proofs.ListedLines.{flat_map-more}
 
 -- ---- pieces that are the same, one by one
@@ -67,7 +67,7 @@ module _ (c : Content) (bound other : ℕ → ℕ) (agree : (n : ℕ) → n < 2 
   bound_same : (n : ℕ) → n < 2 ^ length c.names → bound_line c bound n ≡ bound_line c other n
   unfolding bounds_line
   bound_same n p = ap (λ b. if n == 0 then [] else line
-      (codes "bound " ++ decimal b ++ codes " of" ++ flat_map (name_if_member c n) (range_with_len 0 (length c.names)))) (agree n p)
+      (codes "bound " ++ decimal b ++ codes " of" ++ names_where c (members n))) (agree n p)
 
   pub one_bounds_report : (text again : List ℕ) → IsBoundsReport c bound text → IsBoundsReport c other again → text ≡ again
   unfolding bounds_report
@@ -95,13 +95,13 @@ module _ (c : Content) (bound other : ℕ → ℕ) (agree : (n : ℕ) → n < 2 
   top_same js k = ap (λ b. line (codes "top " ++ decimal k ++ codes " bound " ++ decimal b))
       (agree (first_set c js k) (number_below (length c.names) (set_of (take k js))))
 
-  alone_same : (j : ℕ) → name_if_alone c closed j ≡ name_if_alone c again j
-  alone_same j = ap (λ b. if b then spaced_name c j else []) (told (set_alone c j) (number_below (length c.names) (only j)))
+  alone_same : (j : ℕ) → name_if c j (closed (set_alone c j)) ≡ name_if c j (again (set_alone c j))
+  alone_same j = ap (name_if c j) (told (set_alone c j) (number_below (length c.names) (only j)))
 
   rejected_same : alone_line c closed ≡ alone_line c again
   unfolding alone_line
   rejected_same = ap (λ xs. line (codes "rejected" ++ xs))
-      (each_place (name_if_alone c closed) (name_if_alone c again) (length c.names) (λ j q. alone_same j))
+      (each_place (λ j. name_if c j (closed (set_alone c j))) (λ j. name_if c j (again (set_alone c j))) (length c.names) (λ j q. alone_same j))
 
   pub one_simes_report : (js ks : List ℕ) → js ≡ ks → (text more : List ℕ) → IsSimesReport c bound closed js text
       → IsSimesReport c other again ks more → text ≡ more

@@ -1,13 +1,10 @@
 -- Lines of looks, one by one.
-use Rattle.std.proofs.Common.{◌≡◌, sym, ap, ◌∙◌, ℕ, ◌==◌, arith, Bool, List, [], ◌∷◌, ◌++◌}
+use Rattle.std.proofs.Common.{◌≡◌, sym, ap, ◌∙◌, arith, List, [], ◌∷◌, ◌++◌}
 use Rattle.std.proofs.Common.{length, append-nil, append_assoc}
-use Rattle.std.specs.Prelude.{if◌then◌else◌}
-use Rattle.std.specs.List.{list_any}
 use Rattle.case_model.specs.declared.draft_stages.Arrival.{Arrival}
 use Rattle.case_model.specs.Content.{Content}
 use Rattle.staged_levels.specs.declared.event.Settled.{Settled}
-use Rattle.report.specs.TestReport.{spaced_name}
-use Rattle.report.specs.StagesReport.{look_lines, looks_lines, is_settled, name_if_settled}
+use Rattle.report.specs.StagesReport.{look_lines, looks_lines}
 
 -- one look more
 lines_more : (case : Content) (arrivals : List Arrival) (looks : List (List Settled)) (a : Arrival) (look : List Settled) → length looks ≡ length arrivals
@@ -26,10 +23,3 @@ pub put_line_more : (case : Content) (arrivals : List Arrival) (looks : List (Li
 put_line_more case arrivals looks a look start text new e f g =
     g ∙ ap (λ t. t ++ look_lines case a look) f ∙ append_assoc start (looks_lines case arrivals looks) (look_lines case a look)
     ∙ ap (λ t. start ++ t) (sym (lines_more case arrivals looks a look e))
-
--- what is printed of a position, by whether it is rejected
-pub settled_name_by : (case : Content) (looks : List (List Settled)) (j : ℕ) (rejected : Bool)
-    → list_any (λ look. list_any (λ r. r.hypothesis == j) look) looks ≡ rejected
-    → name_if_settled case looks j ≡ (if rejected then spaced_name case j else [])
-unfolding is_settled
-settled_name_by case looks j rejected e = ap (λ b. if b then spaced_name case j else []) e

@@ -1,20 +1,16 @@
 -- What the command `bounds` prints of a case and the bounds of its sets.
 use Rattle.std.specs.Prelude.{◌≡◌, ℕ, ◌==◌, List, [], ◌++◌, length, codes, if◌then◌else◌}
 use Rattle.std.specs.Fmt.{decimal}
-use Rattle.std.specs.List.{flat_map, range_with_len}
+use Rattle.std.specs.List.{flat_map}
 use Rattle.answers.specs.Lines.{line}
 use Rattle.field_core.specs.NumberedSets.{members}
 use Rattle.case_model.specs.Content.{Content}
 use Rattle.closed_test.specs.SetLists.{AreSetsInOrder}
-use Rattle.report.specs.TestReport.{spaced_name}
-
--- the name of a hypothesis, if it is a member of a set; else nothing
-abbrev pub name_if_member : Content → ℕ → ℕ → List ℕ
-name_if_member case n k = if members n k then spaced_name case k else []
+use Rattle.report.specs.TestReport.{names_where}
 
 -- the line of the bound of a set and of the names of its members, by ascending position
 unfoldable pub members_line : Content → (ℕ → ℕ) → ℕ → List ℕ
-members_line case bound n = line (codes "bound " ++ decimal (bound n) ++ codes " of" ++ flat_map (name_if_member case n) (range_with_len 0 (length case.names)))
+members_line case bound n = line (codes "bound " ++ decimal (bound n) ++ codes " of" ++ names_where case (members n))
 
 -- the line of a set; nothing for the empty one
 abbrev pub bound_line : Content → (ℕ → ℕ) → ℕ → List ℕ

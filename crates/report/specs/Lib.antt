@@ -1,4 +1,5 @@
 pub mod CheckReport
+pub mod Deciding
 pub mod ReportStatements
 pub mod StagesReport
 pub mod StudyReport

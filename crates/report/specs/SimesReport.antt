@@ -1,5 +1,5 @@
 -- What the command `simes` prints of a case, the bounds of its sets, what a closed test says of them, and its hypotheses by ascending p-value.
-use Rattle.std.specs.Prelude.{◌≡◌, ℕ, ◌+◌, Bool, List, [], ◌++◌, length, take, codes, if◌then◌else◌}
+use Rattle.std.specs.Prelude.{◌≡◌, ℕ, ◌+◌, Bool, List, ◌++◌, length, take, codes}
 use Rattle.std.specs.Fmt.{decimal}
 use Rattle.std.specs.List.{flat_map, range_with_len}
 use Rattle.answers.specs.Lines.{line}
@@ -9,7 +9,7 @@ use Rattle.case_model.specs.ClosedTest.{only}
 use Rattle.case_model.specs.Content.{Content}
 use Rattle.closed_test.specs.SetLists.{AreSetsInOrder}
 use Rattle.report.specs.BoundsReport.{bound_line}
-use Rattle.report.specs.TestReport.{spaced_name}
+use Rattle.report.specs.TestReport.{names_where}
 
 -- the number of the set of the first `k` on a list
 abbrev pub first_set : Content → List ℕ → ℕ → ℕ
@@ -27,13 +27,9 @@ top_lines case bound js = flat_map (λ k. top_line case bound js (k + 1)) (range
 abbrev pub set_alone : Content → ℕ → ℕ
 set_alone case j = set_number (length case.names) (only j)
 
--- the name of a hypothesis, if the set of it alone is rejected; else nothing
-abbrev pub name_if_alone : Content → (ℕ → Bool) → ℕ → List ℕ
-name_if_alone case closed j = if closed (set_alone case j) then spaced_name case j else []
-
 -- the line of the names of the hypotheses that are rejected alone, by ascending position
 unfoldable pub alone_line : Content → (ℕ → Bool) → List ℕ
-alone_line case closed = line (codes "rejected" ++ flat_map (name_if_alone case closed) (range_with_len 0 (length case.names)))
+alone_line case closed = line (codes "rejected" ++ names_where case (λ j. closed (set_alone case j)))
 
 -- the number of hypotheses, the lines of sets, those of the leaders, the names of the rejected, and the last line
 unfoldable pub simes_report : Content → (ℕ → ℕ) → (ℕ → Bool) → List ℕ → List ℕ → List ℕ

@@ -1,7 +1,7 @@
 -- What the command `stages` prints of a case and the looks at it.
-use Rattle.std.specs.Prelude.{ℕ, ◌<◌, ◌==◌, Bool, List, [], ◌∷◌, ◌++◌, length, codes, if◌then◌else◌}
+use Rattle.std.specs.Prelude.{ℕ, ◌<◌, ◌==◌, Bool, List, [], ◌∷◌, ◌++◌, length, codes}
 use Rattle.std.specs.Fmt.{decimal}
-use Rattle.std.specs.List.{All, flat_map, list_any, range_with_len}
+use Rattle.std.specs.List.{All, flat_map, list_any}
 use Rattle.answers.specs.Lines.{line}
 use Rattle.field_core.specs.View.{terms}
 use Rattle.fraction.specs.Spelling.{spelling}
@@ -9,7 +9,7 @@ use Rattle.case_model.specs.declared.draft_stages.Arrival.{Arrival}
 use Rattle.case_model.specs.Content.{Content}
 use Rattle.staged_levels.specs.declared.event.Settled.{Settled}
 use Rattle.staged_levels.specs.Looks.{arrivals_of}
-use Rattle.report.specs.TestReport.{spaced_name, alpha_line}
+use Rattle.report.specs.TestReport.{spaced_name, names_where, alpha_line}
 
 -- each rejection is of a hypothesis of the case
 abbrev pub AreRejectionsOf : Content → List Settled → Type 0
@@ -38,13 +38,9 @@ looks_lines case (a ∷ more) (look ∷ looks) = look_lines case a look ++ looks
 unfoldable pub is_settled : List (List Settled) → ℕ → Bool
 is_settled looks j = list_any (λ look. list_any (λ r. r.hypothesis == j) look) looks
 
--- a space and the name of the hypothesis at a position, if it is rejected; else nothing
-abbrev pub name_if_settled : Content → List (List Settled) → ℕ → List ℕ
-name_if_settled case looks j = if is_settled looks j then spaced_name case j else []
-
 -- the line of the names of the hypotheses that are rejected, by ascending position
 unfoldable pub settled_line : Content → List (List Settled) → List ℕ
-settled_line case looks = line (codes "rejected" ++ flat_map (name_if_settled case looks) (range_with_len 0 (length case.names)))
+settled_line case looks = line (codes "rejected" ++ names_where case (is_settled looks))
 
 -- the level, the arrivals with the rejections that they bring, the names of the hypotheses that are rejected, and the last line
 unfoldable pub stages_report : Content → List (List Settled) → List ℕ

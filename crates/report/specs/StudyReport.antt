@@ -1,7 +1,7 @@
 -- What the command `study` prints of a case and its replies to commands.
-use Rattle.std.specs.Prelude.{ℕ, ◌==◌, Bool, List, [], ◌++◌, length, codes, if◌then◌else◌}
+use Rattle.std.specs.Prelude.{ℕ, ◌==◌, Bool, List, [], ◌++◌, codes}
 use Rattle.std.specs.Fmt.{decimal}
-use Rattle.std.specs.List.{flat_map, list_any, range_with_len}
+use Rattle.std.specs.List.{flat_map, list_any}
 use Rattle.answers.specs.Lines.{line}
 use Rattle.field_core.specs.View.{terms}
 use Rattle.fraction.specs.Spelling.{spelling}
@@ -10,7 +10,7 @@ use Rattle.case_model.specs.Content.{Content}
 use Rattle.staged_levels.specs.declared.event.Settled.{Settled}
 use Rattle.staged_levels.specs.declared.event.StepFault.{StepFault}
 use Rattle.staged_levels.specs.declared.event.StepFault.TheVariants.{Known, StageRange, PRange, Rejected, NotLegal, Wide}
-use Rattle.report.specs.TestReport.{spaced_name, alpha_line}
+use Rattle.report.specs.TestReport.{spaced_name, names_where, alpha_line}
 use Rattle.report.specs.StagesReport.{reject_line}
 
 -- A reply to a command.
@@ -47,17 +47,9 @@ refused_line number fault = line (codes "refused " ++ decimal number ++ codes ":
 unfoldable pub is_among : List Settled → ℕ → Bool
 is_among rejections j = list_any (λ r. r.hypothesis == j) rejections
 
--- a space and the name of the hypothesis at a position, if it is rejected; else nothing
-abbrev pub name_if_among : Content → List Settled → ℕ → List ℕ
-name_if_among case rejections j = if is_among rejections j then spaced_name case j else []
-
--- the names of the hypotheses that are rejected, by ascending position
-abbrev pub names_among : Content → List Settled → List ℕ
-names_among case rejections = flat_map (name_if_among case rejections) (range_with_len 0 (length case.names))
-
 -- the line of the number of looks and of the names of the hypotheses that are rejected
 unfoldable pub shown_line : Content → ℕ → List Settled → List ℕ
-shown_line case looks rejections = line (codes "show looks " ++ decimal looks ++ codes " rejected" ++ names_among case rejections)
+shown_line case looks rejections = line (codes "show looks " ++ decimal looks ++ codes " rejected" ++ names_where case (is_among rejections))
 
 -- the lines of a reply
 abbrev pub reply_lines : Content → Reply → List ℕ

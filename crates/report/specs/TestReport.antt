@@ -28,6 +28,14 @@ p_values (Staged stages) = []
 abbrev pub spaced_name : Content → ℕ → List ℕ
 spaced_name case j = 32 ∷ get_or case.names j []
 
+-- a space and the name of the hypothesis at a position, or nothing
+abbrev pub name_if : Content → ℕ → Bool → List ℕ
+name_if case j is_put = if is_put then spaced_name case j else []
+
+-- the names of the hypotheses of which a test holds, by ascending position
+abbrev pub names_where : Content → (ℕ → Bool) → List ℕ
+names_where case test = flat_map (λ j. name_if case j (test j)) (range_with_len 0 (length case.names))
+
 -- the name of a hypothesis, its p-value and its weight
 unfoldable pub figures : Content → StepLine → List ℕ
 figures case x = spaced_name case x.hypothesis ++ codes " p " ++ spelling
@@ -54,13 +62,9 @@ kept_line case x = line (codes "kept" ++ figures case x)
 unfoldable pub is_rejected : List StepLine → ℕ → Bool
 is_rejected steps j = list_any (λ x. x.hypothesis == j) steps
 
--- a space and the name of the hypothesis at a position, if it is that of a step; else nothing
-abbrev pub name_if_rejected : Content → List StepLine → ℕ → List ℕ
-name_if_rejected case steps j = if is_rejected steps j then spaced_name case j else []
-
 -- the line of the names of the hypotheses that are rejected, by ascending position
 unfoldable pub rejected_line : Content → List StepLine → List ℕ
-rejected_line case steps = line (codes "rejected" ++ flat_map (name_if_rejected case steps) (range_with_len 0 (length case.names)))
+rejected_line case steps = line (codes "rejected" ++ names_where case (is_rejected steps))
 
 -- what is printed after a value: nothing if it is reached
 abbrev pub reached_words : Bool → List ℕ

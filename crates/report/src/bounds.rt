@@ -1,39 +1,25 @@
 //! What the command `bounds` prints.
 ghost use Rattle.std.specs.Prelude.{◌≡◌, ◌<◌, ◌≤◌, ◌^◌, ◌++◌, IfOk, OnOk, length};
-ghost use Rattle.std.specs.List.{All, flat_map, range_with_len};
+ghost use Rattle.std.specs.List.{All, flat_map};
+ghost use Rattle.field_core.specs.NumberedSets.{members};
 ghost use Rattle.case_model.specs.CaseView.{content};
 ghost use Rattle.discovery_bound.specs.BoundsView.{bounds_size, bound_of};
-ghost use Rattle.report.specs.BoundsReport.{name_if_member, members_line, bound_line, bounds_report, IsBoundsReport};
+ghost use Rattle.report.specs.TestReport.{names_where};
+ghost use Rattle.report.specs.BoundsReport.{members_line, bound_line, bounds_report, IsBoundsReport};
 
-use crate::lines::{put_count, put_name};
+use crate::lines::{put_count, put_names};
 use case_model::{Case, holds};
 use closed_test::sets_in_order;
 use discovery_bound::Bounds;
 use field_core::{List, NoMemory};
 use std::alloc::Global;
 
-/// Appends the name of a hypothesis, if it is a member of a set.
-fn put_if_member(text: &mut List<u8>, case: &Case, set: u32, k: usize) -> Result<(), NoMemory>
-    requires below { k < length (content case.now).names }
-    requires few { k < 16 }
-    ensures { OnOk result (text.new ≡ text.old ++ name_if_member (content case.now) set k) }
-{
-    if !holds(set, k) {
-        return Ok(());
-    }
-    put_name(text, case, k)
-}
-
 /// Appends the names of the members of a set.
 fn put_members(text: &mut List<u8>, case: &Case, set: u32) -> Result<(), NoMemory>
     requires { length (content case.now).names ≤ 16 }
-    ensures { OnOk result (text.new ≡ text.old ++ flat_map (name_if_member (content case.now) set) (range_with_len 0
-        (length (content case.now).names))) }
+    ensures { OnOk result (text.new ≡ text.old ++ names_where (content case.now) (members set)) }
 {
-    for k in 0..case.size() {
-        put_if_member(text, case, set, k)?;
-    }
-    Ok(())
+    put_names(text, case, |k| holds(set, k))
 }
 
 /// Appends the line of the bound of a set.

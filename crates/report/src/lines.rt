@@ -1,11 +1,12 @@
 //! Lines that several commands put.
-ghost use Rattle.std.specs.Prelude.{◌≡◌, ◌==◌, ◌<◌, ◌++◌, OnOk, OnErr, length};
+ghost use Rattle.std.specs.Prelude.{◌≡◌, ◌==◌, ◌<◌, ◌++◌, ℕ, Bool, OnOk, OnErr, length};
 ghost use Rattle.std.specs.Fmt.{decimal};
-ghost use Rattle.std.specs.List.{flat_map, list_any, range_with_len};
+ghost use Rattle.std.specs.List.{list_any};
 ghost use Rattle.field_core.specs.Texts.{IsBegun};
 ghost use Rattle.answers.specs.Lines.{line};
 ghost use Rattle.case_model.specs.CaseView.{content};
-ghost use Rattle.report.specs.TestReport.{spaced_name, alpha_line, name_if_rejected, rejected_line};
+ghost use Rattle.report.specs.Deciding.{Decides};
+ghost use Rattle.report.specs.TestReport.{spaced_name, name_if, names_where, alpha_line, rejected_line};
 
 use case_model::Case;
 use field_core::{List, NoMemory};
@@ -30,6 +31,37 @@ pub(crate) fn put_name(text: &mut List<u8>, case: &Case, j: usize) -> Result<(),
     text.append(case.name(j))
 }
 
+/// Appends a space and the name of the hypothesis at a position, or nothing.
+fn put_name_if(text: &mut List<u8>, case: &Case, j: usize, is_put: bool) -> Result<(), NoMemory>
+    requires { j < length (content case.now).names }
+    ensures put { OnOk result (text.new ≡ text.old ++ name_if (content case.now) j is_put) }
+    ensures begun { OnErr result (IsBegun text.old text.new (name_if (content case.now) j is_put)) }
+{
+    if !is_put {
+        return Ok(());
+    }
+    put_name(text, case, j)
+}
+
+/// Appends a space and the name of each hypothesis for which the test says yes, by ascending position. When out of memory, a
+/// beginning of this may have been appended.
+pub(crate) fn put_names<T: Fn(usize) -> bool>(
+    text: &mut List<u8>,
+    case: &Case,
+    test: T,
+) -> Result<(), NoMemory>
+    requires { (j : ℕ) → j < length (content case.now).names → T.pre test j }
+    ensures put { (f : ℕ → Bool) → Decides (length (content case.now).names) (T.post test) f
+        → OnOk result (text.new ≡ text.old ++ names_where (content case.now) f) }
+    ensures begun { (f : ℕ → Bool) → Decides (length (content case.now).names) (T.post test) f
+        → OnErr result (IsBegun text.old text.new (names_where (content case.now) f)) }
+{
+    for j in 0..case.size() {
+        put_name_if(text, case, j, test(j))?;
+    }
+    Ok(())
+}
+
 /// Appends the level.
 #[tactic(auto, unfolding(crate::specs::TestReport::alpha_line))]
 pub(crate) fn put_alpha(text: &mut List<u8>, case: &Case) -> Result<(), NoMemory>
@@ -47,33 +79,6 @@ fn is_rejected(steps: &[StepLine], j: usize) -> bool
     steps.iter().any(|step| step.hypothesis == j)
 }
 
-/// Appends the name of the hypothesis at a position, if it is that of a step.
-fn put_if_rejected(
-    text: &mut List<u8>,
-    case: &Case,
-    steps: &[StepLine],
-    j: usize,
-) -> Result<(), NoMemory>
-    requires { j < length (content case.now).names }
-    ensures { OnOk result (text.new ≡ text.old ++ name_if_rejected (content case.now) steps.now j) }
-{
-    if !is_rejected(steps, j) {
-        return Ok(());
-    }
-    put_name(text, case, j)
-}
-
-/// Appends the names of the hypotheses that are rejected.
-fn put_rejected_names(text: &mut List<u8>, case: &Case, steps: &[StepLine]) -> Result<(), NoMemory>
-    ensures { OnOk result (text.new ≡ text.old ++ flat_map (name_if_rejected (content case.now) steps.now)
-        (range_with_len 0 (length (content case.now).names))) }
-{
-    for j in 0..case.size() {
-        put_if_rejected(text, case, steps, j)?;
-    }
-    Ok(())
-}
-
 /// Appends the line of the hypotheses that are rejected.
 #[tactic(auto, unfolding(crate::specs::TestReport::rejected_line))]
 pub(crate) fn put_rejected(
@@ -84,6 +89,6 @@ pub(crate) fn put_rejected(
     ensures { OnOk result (text.new ≡ text.old ++ rejected_line (content case.now) steps.now) }
 {
     text.append(b"rejected")?;
-    put_rejected_names(text, case, steps)?;
+    put_names(text, case, |j| is_rejected(steps, j))?;
     text.push(b'\n')
 }

@@ -1,15 +1,16 @@
 //! What the command `simes` prints.
 ghost use Rattle.std.specs.Prelude.{◌≡◌, ◌≢◌, ◌<◌, ◌^◌, ◌++◌, IfOk, OnOk, length, codes};
 ghost use Rattle.std.specs.Fmt.{decimal};
-ghost use Rattle.std.specs.List.{All, AllPairs, flat_map, range_with_len};
+ghost use Rattle.std.specs.List.{All, AllPairs};
 ghost use Rattle.answers.specs.Lines.{line};
 ghost use Rattle.case_model.specs.CaseView.{content};
 ghost use Rattle.case_model.specs.SetTableView.{table_size, answer_of};
 ghost use Rattle.discovery_bound.specs.BoundsView.{bounds_size, bound_of};
-ghost use Rattle.report.specs.SimesReport.{top_lines, name_if_alone, alone_line, simes_report, IsSimesReport};
+ghost use Rattle.report.specs.TestReport.{names_where};
+ghost use Rattle.report.specs.SimesReport.{top_lines, set_alone, alone_line, simes_report, IsSimesReport};
 
 use crate::bounds::put_sets;
-use crate::lines::{put_count, put_name};
+use crate::lines::{put_count, put_names};
 use case_model::{Case, SetTable, added};
 use closed_test::sets_in_order;
 use discovery_bound::Bounds;
@@ -57,33 +58,22 @@ fn alone(j: usize) -> u32
     1 << j
 }
 
-/// Appends the name of a hypothesis, if the set of it alone is rejected.
-fn put_if_alone(
-    text: &mut List<u8>,
-    case: &Case,
-    closed: &SetTable,
-    j: usize,
-) -> Result<(), NoMemory>
+/// Whether the set of a hypothesis alone is rejected.
+fn is_rejected(case: &Case, closed: &SetTable, j: usize) -> bool
     requires size { table_size closed.now ≡ length (content case.now).names }
-    requires below { j < table_size closed.now }
-    ensures { OnOk result (text.new ≡ text.old ++ name_if_alone (content case.now) (answer_of closed.now) j) }
+    requires below { j < length (content case.now).names }
+    ensures { result ≡ answer_of closed.now (set_alone (content case.now) j) }
 {
-    if !closed.get(alone(j)) {
-        return Ok(());
-    }
-    put_name(text, case, j)
+    closed.get(alone(j))
 }
 
 /// Appends the names of the hypotheses that are rejected alone.
 fn put_alone_names(text: &mut List<u8>, case: &Case, closed: &SetTable) -> Result<(), NoMemory>
-    requires size { table_size closed.now ≡ length (content case.now).names }
-    ensures { OnOk result (text.new ≡ text.old ++ flat_map (name_if_alone (content case.now) (answer_of closed.now))
-        (range_with_len 0 (length (content case.now).names))) }
+    requires { table_size closed.now ≡ length (content case.now).names }
+    ensures { OnOk result (text.new ≡ text.old
+        ++ names_where (content case.now) (λ j. answer_of closed.now (set_alone (content case.now) j))) }
 {
-    for j in 0..case.size() {
-        put_if_alone(text, case, closed, j)?;
-    }
-    Ok(())
+    put_names(text, case, |j| is_rejected(case, closed, j))
 }
 
 /// Appends the line of the hypotheses that are rejected alone.

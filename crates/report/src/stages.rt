@@ -1,6 +1,6 @@
 //! What the command `stages` prints.
 ghost use Rattle.std.specs.Prelude.{◌≡◌, ◌==◌, ◌<◌, ◌++◌, IfOk, OnOk, OnErr, length};
-ghost use Rattle.std.specs.List.{All, flat_map, list_any, range_with_len};
+ghost use Rattle.std.specs.List.{All, flat_map, list_any};
 ghost use Rattle.field_core.specs.Texts.{IsBegun};
 ghost use Rattle.case_model.specs.CaseView.{content};
 ghost use Rattle.staged_levels.specs.StudyAnswers.{IsStaged};
@@ -11,12 +11,11 @@ ghost use Rattle.report.specs.StagesReport.{
   reject_line,
   look_lines,
   looks_lines,
-  name_if_settled,
   settled_line,
   stages_report,
 };
 
-use crate::lines::{put_alpha, put_name};
+use crate::lines::{put_alpha, put_name, put_names};
 use case_model::{Arrival, Case, Inputs};
 use field_core::{List, NoMemory};
 use staged_levels::Settled;
@@ -129,44 +128,13 @@ fn is_settled(looks: &[List<Settled>], j: usize) -> bool
     looks.iter().any(|look| is_among(look.as_slice(), j))
 }
 
-/// Appends the name of the hypothesis at a position, if it is rejected.
-fn put_if_settled(
-    text: &mut List<u8>,
-    case: &Case,
-    looks: &[List<Settled>],
-    j: usize,
-) -> Result<(), NoMemory>
-    requires { j < length (content case.now).names }
-    ensures { OnOk result (text.new ≡ text.old ++ name_if_settled (content case.now) looks.now j) }
-{
-    if !is_settled(looks, j) {
-        return Ok(());
-    }
-    put_name(text, case, j)
-}
-
-/// Appends the names of the hypotheses that are rejected.
-fn put_settled_names(
-    text: &mut List<u8>,
-    case: &Case,
-    looks: &[List<Settled>],
-) -> Result<(), NoMemory>
-    ensures { OnOk result (text.new ≡ text.old ++ flat_map (name_if_settled (content case.now) looks.now)
-        (range_with_len 0 (length (content case.now).names))) }
-{
-    for j in 0..case.size() {
-        put_if_settled(text, case, looks, j)?;
-    }
-    Ok(())
-}
-
 /// Appends the line of the hypotheses that are rejected.
 #[tactic(auto, unfolding(crate::specs::StagesReport::settled_line))]
 fn put_settled(text: &mut List<u8>, case: &Case, looks: &[List<Settled>]) -> Result<(), NoMemory>
     ensures { OnOk result (text.new ≡ text.old ++ settled_line (content case.now) looks.now) }
 {
     text.append(b"rejected")?;
-    put_settled_names(text, case, looks)?;
+    put_names(text, case, |j| is_settled(looks, j))?;
     text.push(b'\n')
 }
 

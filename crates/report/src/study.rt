@@ -2,19 +2,19 @@
 ghost use Rattle.std.specs.Prelude.{◌≡◌, ◌<◌, ◌++◌, IfOk, OnOk, OnErr, length};
 ghost use Rattle.field_core.specs.Texts.{IsBegun};
 ghost use Rattle.case_model.specs.CaseView.{content};
+ghost use Rattle.report.specs.TestReport.{names_where};
 ghost use Rattle.report.specs.StagesReport.{AreRejectionsOf};
 ghost use Rattle.report.specs.StudyReport.{
   look_line,
   taken_lines,
   refusal_word,
   refused_line,
-  name_if_among,
-  names_among,
+  is_among as among,
   shown_line,
   opened_lines,
 };
 
-use crate::lines::{put_alpha, put_name};
+use crate::lines::{put_alpha, put_name, put_names};
 use crate::stages::{is_among, put_rejections};
 use case_model::Case;
 use field_core::{List, NoMemory};
@@ -83,32 +83,12 @@ pub fn put_refused(text: &mut List<u8>, number: usize, fault: &StepFault) -> Res
     text.push(b'\n')
 }
 
-/// Appends the name of the hypothesis at a position, if it is rejected.
-fn put_if_among(
-    text: &mut List<u8>,
-    case: &Case,
-    rejections: &[Settled],
-    j: usize,
-) -> Result<(), NoMemory>
-    requires { j < length (content case.now).names }
-    ensures put { OnOk result (text.new ≡ text.old ++ name_if_among (content case.now) rejections.now j) }
-    ensures begun { OnErr result (IsBegun text.old text.new (name_if_among (content case.now) rejections.now j)) }
-{
-    if !is_among(rejections, j) {
-        return Ok(());
-    }
-    put_name(text, case, j)
-}
-
 /// Appends the names of the hypotheses that are rejected.
 fn put_names_among(text: &mut List<u8>, case: &Case, rejections: &[Settled]) -> Result<(), NoMemory>
-    ensures put { OnOk result (text.new ≡ text.old ++ names_among (content case.now) rejections.now) }
-    ensures begun { OnErr result (IsBegun text.old text.new (names_among (content case.now) rejections.now)) }
+    ensures put { OnOk result (text.new ≡ text.old ++ names_where (content case.now) (among rejections.now)) }
+    ensures begun { OnErr result (IsBegun text.old text.new (names_where (content case.now) (among rejections.now))) }
 {
-    for j in 0..case.size() {
-        put_if_among(text, case, rejections, j)?;
-    }
-    Ok(())
+    put_names(text, case, |j| is_among(rejections, j))
 }
 
 /// Appends how many looks have arrived, and the names of the hypotheses that are rejected. `NoMemory` when out of

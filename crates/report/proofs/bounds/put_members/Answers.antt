@@ -1,8 +1,6 @@
-use Rattle.case_model.specs.CaseView.{content}
-use Rattle.report.specs.BoundsReport.{name_if_member}
-use Rattle.report.proofs.ListedLines.{put_more}
+use Rattle.std.proofs.Common.{rules}
+use Rattle.field_core.specs.NumberedSets.{members}
 use Rattle.report.proofs.bounds.put_members.Goals as goal
 
-pub loop-k-preserved : goal.loop-k-preserved
-loop-k-preserved c = put_more (name_if_member (content c.args.case.now) c.args.set) c.args.text.now c.loop-k.text c.put_if_member.new.text c.loop-k.k
-    c.loop-k.invariant c.in_ok-put_if_member.ensures
+pub returns : goal.returns
+returns c = c.put_names.ensures.put (members c.args.set) (λ k b q p. search rules)

@@ -3,7 +3,8 @@ use Rattle.std.specs.Prelude.{codes}
 use Rattle.std.specs.Fmt.{decimal}
 use Rattle.field_core.specs.Texts.{IsBegun}
 use Rattle.case_model.specs.CaseView.{content}
-use Rattle.report.specs.StudyReport.{names_among, shown_line}
+use Rattle.report.specs.TestReport.{names_where}
+use Rattle.report.specs.StudyReport.{is_among, shown_line}
 use Rattle.report.proofs.Begun.{begun_none, begun_behind, begun_before}
 use Rattle.report.proofs.study.put_shown.Goals as goal
 use Rattle.field_core.proofs.Results.{on_err}
@@ -11,7 +12,7 @@ use Rattle.field_core.proofs.Results.{on_err}
 pub returns-in_err-append-2-clause-begun : goal.returns-in_err-append-2-clause-begun
 unfolding shown_line
 returns-in_err-append-2-clause-begun c =
-    let names = names_among (content c.args.case.now) c.args.rejections.now in
+    let names = names_where (content c.args.case.now) (is_among c.args.rejections.now) in
     let looks = decimal c.args.looks in
     let rest : List ℕ = codes " rejected" ++ (names ++ 10 ∷ []) in
     let e : shown_line (content c.args.case.now) c.args.looks c.args.rejections.now ≡ codes "show looks " ++ (looks ++ rest) = simp append_assoc in
@@ -24,7 +25,7 @@ returns-in_err-append-2-clause-begun c =
 pub returns-in_err-put_names_among-clause-begun : goal.returns-in_err-put_names_among-clause-begun
 unfolding shown_line
 returns-in_err-put_names_among-clause-begun c =
-    let names = names_among (content c.args.case.now) c.args.rejections.now in
+    let names = names_where (content c.args.case.now) (is_among c.args.rejections.now) in
     let looks = decimal c.args.looks in
     let rest : List ℕ = codes " rejected" ++ (names ++ 10 ∷ []) in
     let e : shown_line (content c.args.case.now) c.args.looks c.args.rejections.now ≡ codes "show looks " ++ (looks ++ rest) = simp append_assoc in
