@@ -1,8 +1,11 @@
 -- What each command answers.
-use Rattle.std.specs.Prelude.{ℕ, ◌⊎◌, List, Option, codes}
+use Rattle.std.specs.Prelude.{◌≡◌, ℕ, ◌⊎◌, List, Option, codes}
+use Rattle.graph_io.specs.Causes.{Rose}
 use Rattle.answers.specs.declared.answer.Answer.{Answer}
 use Rattle.answers.specs.declared.refusal.Refusal.{Refusal}
+use Rattle.answers.specs.Devices.{Reading}
 use Rattle.answers.specs.Stages.{Stage, and_then, told_as, on_bytes, within}
+use Rattle.answers.specs.Ways.{Ways, over_source}
 use Rattle.case_model.specs.Content.{Content}
 use Rattle.command_words.specs.Asked.{Written, Asked, on_case as task_on_case, check, catalogue, sample, help}
 use Rattle.command_words.specs.declared.command.CaseTask.{CaseTask}
@@ -64,6 +67,12 @@ IsCheckable form case = (c : Content) × (accepted form check_needs case).Gives 
 abbrev pub IsUncheckable : Written → Option (List ℕ) → Type 0
 IsUncheckable form case = (r : Refusal) × (accepted form check_needs case).Refuses r
 
+-- The ways in which `check` may end, by what its case and its proof were and are.
+abbrev pub check_ways : Written → (case_old case_new proof_old proof_new : Reading) → Ways Answer
+check_ways form case_old case_new proof_old proof_new = over_source (check_call form case_old.left proof_old.left)
+    (Rose case_old.faults case_new.faults ⊎ (IsCheckable form case_old.left × Rose proof_old.faults proof_new.faults))
+    ((case_new.faults ≡ case_old.faults) × (proof_new.faults ≡ proof_old.faults))
+
 -- what a command answers to a case and a proof
 unfoldable pub call_of : Asked → Option (List ℕ) → Option (List ℕ) → Stage Refusal Answer
 call_of (task_on_case form task) case proof = case_call form task case
@@ -99,3 +108,9 @@ StopsAtCase help case = ⊥
 -- a source that a command reads had a fault
 abbrev pub CallFault : Asked → Option (List ℕ) → Type 0 → Type 0 → Type 0
 CallFault command case case_rose proof_rose = (TakesCase command × case_rose) ⊎ (TakesProof command case × proof_rose)
+
+-- The ways in which a command may end, by what its case and its proof were and are.
+abbrev pub command_ways : Asked → (case_old case_new proof_old proof_new : Reading) → Ways Answer
+command_ways command case_old case_new proof_old proof_new = over_source (call_of command case_old.left proof_old.left)
+    (CallFault command case_old.left (Rose case_old.faults case_new.faults) (Rose proof_old.faults proof_new.faults))
+    ((case_new.faults ≡ case_old.faults) × (proof_new.faults ≡ proof_old.faults))

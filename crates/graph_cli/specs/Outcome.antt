@@ -1,8 +1,11 @@
 -- What words, a case and a proof call for: the first stage that refuses decides.
 use Rattle.std.specs.Prelude.{◌≡◌, ℕ, ◌⊎◌, List, Option, Some, Ok}
+use Rattle.graph_io.specs.Causes.{Rose}
 use Rattle.answers.specs.declared.answer.Answer.{Answer}
 use Rattle.answers.specs.declared.refusal.Refusal.{Refusal}
+use Rattle.answers.specs.Devices.{Reading}
 use Rattle.answers.specs.Stages.{Stage, and_then, told_as}
+use Rattle.answers.specs.Ways.{Ways, over_source}
 use Rattle.command_words.specs.Asked.{Asked, StudyAsked, file_of}
 use Rattle.command_words.specs.Words.{asked_in, study_in, stage_of}
 use Rattle.refusals.specs.UsageRefusal.{usage}
@@ -40,3 +43,9 @@ RefusesCase words case = (command : Asked) × AskFor words command × StopsAtCas
 -- a source that is read had a fault
 abbrev pub ReadRose : List (List ℕ) → Option (List ℕ) → Type 0 → Type 0 → Type 0
 ReadRose words case case_rose proof_rose = (ReadsCase words × case_rose) ⊎ (ReadsProof words case × proof_rose)
+
+-- The ways in which a call with these words may end, by what its case and its proof were and are.
+abbrev pub ways_of : List (List ℕ) → (case_old case_new proof_old proof_new : Reading) → Ways Answer
+ways_of words case_old case_new proof_old proof_new = over_source (outcome words case_old.left proof_old.left)
+    (ReadRose words case_old.left (Rose case_old.faults case_new.faults) (Rose proof_old.faults proof_new.faults))
+    ((case_new.faults ≡ case_old.faults) × (proof_new.faults ≡ proof_old.faults))

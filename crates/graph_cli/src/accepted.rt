@@ -1,9 +1,9 @@
 //! The stages that commands have in common: a case is read, and is one that the command can take.
 ghost use Rattle.std.specs.Prelude.{◌≡◌, OnOk};
 ghost use Rattle.std.specs.Io.KnownBytes.{IsAtEnd};
-ghost use Rattle.graph_io.specs.Causes.{Rose};
+ghost use Rattle.answers.specs.Devices.{reading};
 ghost use Rattle.answers.specs.Stages.{seen_by};
-ghost use Rattle.answers.specs.Ways.{EndsIn, over_values, over_source};
+ghost use Rattle.answers.specs.Ways.{EndsIn, over_values, over_reading};
 ghost use Rattle.case_model.specs.CaseView.{content};
 ghost use Rattle.command_words.specs.Asked.{written, text, csv, json};
 ghost use Rattle.command_words.specs.Levels.{level_of};
@@ -99,8 +99,8 @@ pub fn accepted_case<S: Source>(
     needs: Needs,
     source: &mut S,
 ) -> Result<Case, Stop>
-    ensures ends { EndsIn (over_source (seen_by content (accepted (written form.now) needs (S.left source.old)))
-        (Rose (S.faults source.old) (S.faults source.new)) (S.faults source.new ≡ S.faults source.old)) result }
+    ensures ends { EndsIn (over_reading (seen_by content (accepted (written form.now) needs (S.left source.old)))
+        (reading S.Source source.old) (reading S.Source source.new)) result }
     ensures end { OnOk result (IsAtEnd (S.left source.new)) }
     ensures taken { IsTakenWithin S.left S.calls source.old source.new }
 {

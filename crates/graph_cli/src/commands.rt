@@ -1,8 +1,8 @@
 //! The commands.
-ghost use Rattle.std.specs.Prelude.{◌≡◌, ◌≤◌, ◌<◌, ◌⊎◌, OnOk, length};
+ghost use Rattle.std.specs.Prelude.{◌≡◌, ◌≤◌, ◌<◌, OnOk, length};
 ghost use Rattle.std.specs.Io.KnownBytes.{IsAtEnd};
-ghost use Rattle.graph_io.specs.Causes.{Rose};
-ghost use Rattle.answers.specs.Ways.{EndsIn, IfConcluded, over_source};
+ghost use Rattle.answers.specs.Devices.{reading};
+ghost use Rattle.answers.specs.Ways.{EndsIn, IfConcluded, over_reading};
 ghost use Rattle.case_model.specs.CaseView.{content};
 ghost use Rattle.command_words.specs.Asked.{asked, written};
 ghost use Rattle.graph_cli.specs.Accepted.{IsOfKind, IsTakenWithin};
@@ -11,14 +11,13 @@ ghost use Rattle.graph_cli.specs.Commands.{
   on_case,
   case_call,
   check_needs,
-  check_call,
+  check_ways,
   IsCheckable,
   IsUncheckable,
-  call_of,
+  command_ways,
   TakesCase,
   TakesProof,
   StopsAtCase,
-  CallFault,
 };
 ghost use Rattle.graph_cli.specs.Troubles.{Meets};
 
@@ -98,8 +97,8 @@ fn case_call<S: Source>(
     task: CaseTask,
     source: &mut S,
 ) -> Result<Answer, Stop>
-    ensures ends { EndsIn (over_source (case_call (written form.now) task (S.left source.old))
-        (Rose (S.faults source.old) (S.faults source.new)) (S.faults source.new ≡ S.faults source.old)) result }
+    ensures ends { EndsIn (over_reading (case_call (written form.now) task (S.left source.old))
+        (reading S.Source source.old) (reading S.Source source.new)) result }
     ensures end { OnOk result (IsAtEnd (S.left source.new)) }
     ensures taken { IsTakenWithin S.left S.calls source.old source.new }
 {
@@ -123,10 +122,8 @@ fn check_call<S: Source, T: Source>(
     case: &mut S,
     proof: &mut T,
 ) -> Result<Answer, Stop>
-    ensures ends { EndsIn (over_source (check_call (written form.now) (S.left case.old) (T.left proof.old))
-        (Rose (S.faults case.old) (S.faults case.new) ⊎
-        (IsCheckable (written form.now) (S.left case.old) × Rose (T.faults proof.old) (T.faults proof.new)))
-        ((S.faults case.new ≡ S.faults case.old) × (T.faults proof.new ≡ T.faults proof.old))) result }
+    ensures ends { EndsIn (check_ways (written form.now) (reading S.Source case.old) (reading S.Source case.new)
+        (reading T.Source proof.old) (reading T.Source proof.new)) result }
     ensures case_end { OnOk result (IsAtEnd (S.left case.new)) }
     ensures proof_kept { ¬ IsCheckable (written form.now) (S.left case.old) → proof.new ≡ proof.old }
     ensures proof_end { OnOk result (IsAtEnd (T.left proof.new)) }
@@ -149,15 +146,12 @@ pub fn call<S: Source, T: Source>(
     case: &mut S,
     proof: &mut T,
 ) -> Result<Answer, Stop>
-    ensures ends { EndsIn (over_source (call_of (asked command.now) (S.left case.old) (T.left proof.old))
-        (CallFault (asked command.now) (S.left case.old)
-        (Rose (S.faults case.old) (S.faults case.new)) (Rose (T.faults proof.old) (T.faults proof.new)))
-        ((S.faults case.new ≡ S.faults case.old) × (T.faults proof.new ≡ T.faults proof.old))) result }
+    ensures ends { EndsIn (command_ways (asked command.now) (reading S.Source case.old) (reading S.Source case.new)
+        (reading T.Source proof.old) (reading T.Source proof.new)) result }
     ensures case_kept { ¬ TakesCase (asked command.now) → case.new ≡ case.old }
     ensures case_end { TakesCase (asked command.now) → OnOk result (IsAtEnd (S.left case.new)) }
     ensures proof_kept { ¬ TakesProof (asked command.now) (S.left case.old) → proof.new ≡ proof.old }
-    ensures proof_end { TakesProof (asked command.now) (S.left case.old) →
-        OnOk result (IsAtEnd (T.left proof.new)) }
+    ensures proof_end { TakesProof (asked command.now) (S.left case.old) → OnOk result (IsAtEnd (T.left proof.new)) }
     ensures proof_asked { TakesProof (asked command.now) (S.left case.old) →
         ¬ StopsAtCase (asked command.now) (S.left case.old) →
         IfConcluded (T.calls proof.old < T.calls proof.new) result }

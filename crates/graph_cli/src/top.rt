@@ -1,11 +1,12 @@
 //! The top call.
-ghost use Rattle.std.specs.Prelude.{◌≡◌, ◌<◌, ℕ, None, OnOk, IfSome, map, string_bytes};
+ghost use Rattle.std.specs.Prelude.{◌≡◌, ◌<◌, ℕ, None, OnOk, IfSome};
 ghost use Rattle.std.specs.Io.KnownBytes.{IsAtEnd};
-ghost use Rattle.graph_io.specs.Causes.{Rose};
+ghost use Rattle.answers.specs.Devices.{reading, writing};
 ghost use Rattle.answers.specs.Runs.{Runs, Uses, IsConcluded};
-ghost use Rattle.answers.specs.Ways.{EndsIn, IfConcluded, over_source};
+ghost use Rattle.answers.specs.Ways.{EndsIn, IfConcluded};
+ghost use Rattle.command_words.specs.WordBytes.{words_in};
 ghost use Rattle.graph_cli.specs.Accepted.{IsTakenWithin};
-ghost use Rattle.graph_cli.specs.Outcome.{NamesFile, outcome, ReadsCase, ReadsProof, ReadRose, RefusesCase};
+ghost use Rattle.graph_cli.specs.Outcome.{NamesFile, ways_of, ReadsCase, ReadsProof, RefusesCase};
 
 use crate::commands::call;
 use answers::{Answer, Stop, conclude};
@@ -16,8 +17,8 @@ use std::alloc::Global;
 
 /// Returns the place, from 0, of the word that names the file of a proof, or that of the commands of a study.
 pub fn file_word(words: &[String]) -> Option<usize>
-    ensures file { IfSome result (NamesFile (map string_bytes words.now)) }
-    ensures none { result ≡ None → (place : ℕ) → ¬ NamesFile (map string_bytes words.now) place }
+    ensures file { IfSome result (NamesFile (words_in words.now)) }
+    ensures none { result ≡ None → (place : ℕ) → ¬ NamesFile (words_in words.now) place }
 {
     match read_words(words) {
         Ok(command) => command.file(),
@@ -36,19 +37,14 @@ fn answer<S: Source, T: Source>(
     case: &mut S,
     proof: &mut T,
 ) -> Result<Answer, Stop>
-    ensures ends { EndsIn (over_source (outcome (map string_bytes words.now) (S.left case.old) (T.left proof.old))
-        (ReadRose (map string_bytes words.now) (S.left case.old)
-        (Rose (S.faults case.old) (S.faults case.new)) (Rose (T.faults proof.old) (T.faults proof.new)))
-        ((S.faults case.new ≡ S.faults case.old) × (T.faults proof.new ≡ T.faults proof.old))) result }
-    ensures case_kept { ¬ ReadsCase (map string_bytes words.now) → case.new ≡ case.old }
-    ensures case_end { ReadsCase (map string_bytes words.now) →
-        OnOk result (IsAtEnd (S.left case.new)) }
-    ensures proof_kept { ¬ ReadsProof (map string_bytes words.now) (S.left case.old) →
-        proof.new ≡ proof.old }
-    ensures proof_end { ReadsProof (map string_bytes words.now) (S.left case.old) →
-        OnOk result (IsAtEnd (T.left proof.new)) }
-    ensures proof_asked { ReadsProof (map string_bytes words.now) (S.left case.old) →
-        ¬ RefusesCase (map string_bytes words.now) (S.left case.old) →
+    ensures ends { EndsIn (ways_of (words_in words.now) (reading S.Source case.old) (reading S.Source case.new)
+        (reading T.Source proof.old) (reading T.Source proof.new)) result }
+    ensures case_kept { ¬ ReadsCase (words_in words.now) → case.new ≡ case.old }
+    ensures case_end { ReadsCase (words_in words.now) → OnOk result (IsAtEnd (S.left case.new)) }
+    ensures proof_kept { ¬ ReadsProof (words_in words.now) (S.left case.old) → proof.new ≡ proof.old }
+    ensures proof_end { ReadsProof (words_in words.now) (S.left case.old) → OnOk result (IsAtEnd (T.left proof.new)) }
+    ensures proof_asked { ReadsProof (words_in words.now) (S.left case.old) →
+        ¬ RefusesCase (words_in words.now) (S.left case.old) →
         IfConcluded (T.calls proof.old < T.calls proof.new) result }
     ensures case_taken { IsTakenWithin S.left S.calls case.old case.new }
     ensures proof_taken { IsTakenWithin T.left T.calls proof.old proof.new }
@@ -74,18 +70,12 @@ pub fn run<S: Source, T: Source, W: Sink>(
     proof: &mut T,
     out: &mut W,
 ) -> u8
-    ensures runs { Runs
-        (over_source (outcome (map string_bytes words.now) (S.left case.old) (T.left proof.old))
-        (ReadRose (map string_bytes words.now) (S.left case.old)
-        (Rose (S.faults case.old) (S.faults case.new)) (Rose (T.faults proof.old) (T.faults proof.new)))
-        ((S.faults case.new ≡ S.faults case.old) × (T.faults proof.new ≡ T.faults proof.old)))
-        (Rose (W.faults out.old) (W.faults out.new)) (W.faults out.new ≡ W.faults out.old)
-        (W.held out.old) (W.held out.new) (W.calls out.old) (W.calls out.new) result }
-    ensures case { Uses S.left (ReadsCase (map string_bytes words.now)) case.old case.new result }
-    ensures proof { Uses T.left (ReadsProof (map string_bytes words.now) (S.left case.old))
-        proof.old proof.new result }
-    ensures proof_asked { ReadsProof (map string_bytes words.now) (S.left case.old) →
-        ¬ RefusesCase (map string_bytes words.now) (S.left case.old) → IsConcluded result →
+    ensures runs { Runs (ways_of (words_in words.now) (reading S.Source case.old) (reading S.Source case.new)
+        (reading T.Source proof.old) (reading T.Source proof.new)) (writing W.Sink out.old) (writing W.Sink out.new) result }
+    ensures case { Uses S.left (ReadsCase (words_in words.now)) case.old case.new result }
+    ensures proof { Uses T.left (ReadsProof (words_in words.now) (S.left case.old)) proof.old proof.new result }
+    ensures proof_asked { ReadsProof (words_in words.now) (S.left case.old) →
+        ¬ RefusesCase (words_in words.now) (S.left case.old) → IsConcluded result →
         T.calls proof.old < T.calls proof.new }
     ensures case_taken { IsTakenWithin S.left S.calls case.old case.new }
     ensures proof_taken { IsTakenWithin T.left T.calls proof.old proof.new }
