@@ -1,8 +1,10 @@
 -- Replies and ends as contracts see them, with the looks that a keeper holds.
-use Rattle.std.specs.Prelude.{◌≡◌, ◌+◌, ◌++◌, ◌⊎◌, ℕ, List, [], length, IfSome, Option, Some, None}
+use Rattle.std.specs.Prelude.{◌≡◌, ◌+◌, ◌++◌, ◌⊎◌, ℕ, List, [], length, IfSome, Option, Some, None, Result, Ok, Err}
 use Rattle.std.specs.List.{flat_map}
+use Rattle.graph_io.specs.Causes.{Rose}
 use Rattle.graph_io.specs.declared.keeper.Look.{Look}
 use Rattle.answers.specs.declared.answer.Answer.{Answer}
+use Rattle.answers.specs.Devices.{Keeping}
 use Rattle.case_model.specs.Content.{Content}
 use Rattle.report.specs.StudyReport.{Reply, reply_lines}
 use Rattle.staged_levels.specs.Studies.{StudyState}
@@ -36,6 +38,16 @@ pub record AreRepliedTo (c : Content) (old : StudyState) (commands : List StudyC
   pub calls_are : now ≡ before + length (looks_taken replies)
   pub text_is : written ≡ text ++ flat_map (reply_lines c) replies
 
+-- a command was replied to, over a keeper that was and is as these say
+abbrev pub RepliesTo : Content → ℕ → StudyState → StudyCommand → (before now : Keeping) → (text written : List ℕ) → StudyState → Type 0
+RepliesTo c n old command before now text written new =
+    IsRepliedTo c n old command before.looks now.looks before.calls now.calls text written new
+
+-- commands were replied to one after another, over a keeper that was and is as these say
+abbrev pub RepliesToAll : Content → StudyState → List StudyCommand → (before now : Keeping) → (text written : List ℕ) → StudyState → Type 0
+RepliesToAll c old commands before now text written new =
+    AreRepliedTo c old commands before.looks now.looks before.calls now.calls text written new
+
 -- looks are kept also that may have been taken if the call stopped part way
 pub record HoldSome (May : List Look → Type 0) (kept held : Option (List Look)) : Type 0 where
   pub more : List Look
@@ -52,11 +64,21 @@ StopsCommands c rose n old commands kept held before now Fault =
     rose × HoldSome (λ looks. MayTake c n old commands looks × (now ≡ before + (length looks + 1))) kept held
 StopsCommands c rose n old commands kept held before now NoMemory = HoldSome (MayTake c n old commands) kept held
 
+-- why commands aren't replied to, over a keeper that was and is as these say
+abbrev pub StopsOver : Content → ℕ → StudyState → List StudyCommand → (before now : Keeping) → CommandStop → Type 0
+StopsOver c n old commands before now stop =
+    StopsCommands c (Rose before.faults now.faults) n old commands before.looks now.looks before.calls now.calls stop
+
 -- a fact if the keeper had no fault: a command stops part way, or memory was exhausted
 abbrev pub IfBroken : Type 0 → CommandStop → Type 0
 IfBroken p (Wide place w) = p
 IfBroken p Fault = Unit {0}
 IfBroken p NoMemory = p
+
+-- a fact if the keeper had no fault
+abbrev pub IfFaultless : Type 0 → Result (Unit {0}) CommandStop → Type 0
+IfFaultless p (Ok x) = p
+IfFaultless p (Err stop) = IfBroken p stop
 
 -- An answer that is required, and its looks are kept also. The keeper was called once to load its looks, and once for each look that is kept also.
 pub record KeepWith (Gives : StudyEnd → Type 0) (kept held : Option (List Look)) (before now : ℕ) (answer : Answer) : Type 0 where

@@ -1,8 +1,10 @@
 -- The ways in which a call over a keeper may end: what it gives, its faults, and the looks that the keeper holds then.
-use Rattle.std.specs.Prelude.{◌≡◌, ℕ, List, Option, false}
+use Rattle.std.specs.Prelude.{◌≡◌, ◌+◌, ℕ, List, Option, false, ⊤}
+use Rattle.graph_io.specs.Causes.{Rose}
 use Rattle.graph_io.specs.declared.keeper.Look.{Look}
 use Rattle.answers.specs.declared.answer.Answer.{Answer}
 use Rattle.answers.specs.declared.refusal.Refusal.{Refusal}
+use Rattle.answers.specs.Devices.{Keeping}
 use Rattle.answers.specs.Stages.{Stage}
 use Rattle.answers.specs.Ways.{Ways}
 use Rattle.case_model.specs.Content.{Content}
@@ -11,8 +13,9 @@ use Rattle.study_register.specs.declared.register.Register.{Register}
 use Rattle.study_register.specs.Looking.{AreTaken}
 use Rattle.study_register.specs.RegisterFaults.{OnLooks}
 use Rattle.study_register.specs.RegisterView.{study_in, looks_in, is_spent}
-use Rattle.study_answers.specs.AnswerView.{HoldSome, KeepWith, IsLastFailed}
-use Rattle.study_answers.specs.StudyStages.{StudyEnd, HasOpening, opened, on_looks}
+use Rattle.study_answers.specs.declared.command.StudyCommand.{StudyCommand}
+use Rattle.study_answers.specs.AnswerView.{HoldSome, KeepWith, IsLastFailed, MayKeep}
+use Rattle.study_answers.specs.StudyStages.{StudyEnd, HasOpening, opened, on_looks, study_stage}
 
 -- The ways of a call that answers, over sources and a keeper. `May` says which looks may be added if the call stops by a fault of the keeper or is
 -- out of memory. `read_rose` says that a source that is read had a fault, and `keeper_rose` that the keeper had one; `read_clean` and `keeper_clean`
@@ -43,3 +46,12 @@ over_opening c keeper_rose keeper_clean kept = record {
   keeper = HasOpening c × keeper_rose;
   memory = keeper_clean;
 }
+
+-- The ways in which the looks of a keeper are taken, by what it was and is. A call of it that failed was the only one.
+abbrev pub opening_ways : Content → (old new : Keeping) → Ways Register
+opening_ways c old new = over_opening c (Rose old.faults new.faults × (new.calls ≡ old.calls + 1)) (new.faults ≡ old.faults) old.looks
+
+-- The ways in which commands are answered in a study of a case, by what its keeper was and is. No source is read.
+abbrev pub answer_ways : Content → List StudyCommand → (old new : Keeping) → Ways Answer
+answer_ways c commands old new = over_keeper (on_looks old.looks (study_stage c commands)) (MayKeep c commands old.looks)
+    ⊥ (HasOpening c × Rose old.faults new.faults) ⊤ (new.faults ≡ old.faults) old.looks new.looks old.calls new.calls

@@ -1,7 +1,7 @@
 //! What a study answers.
-ghost use Rattle.std.specs.Prelude.{◌≡◌, ◌≤◌, ◌+◌, ◌++◌, IfOk, OnOk, ⊤, length, codes};
+ghost use Rattle.std.specs.Prelude.{◌≡◌, ◌≤◌, ◌+◌, ◌++◌, IfOk, OnOk, length, codes};
 ghost use Rattle.std.specs.List.{AllByRecursion};
-ghost use Rattle.graph_io.specs.Causes.{Rose};
+ghost use Rattle.answers.specs.Devices.{keeping};
 ghost use Rattle.answers.specs.Lines.{line, done, refused};
 ghost use Rattle.answers.specs.Ways.{EndsIn};
 ghost use Rattle.case_model.specs.CaseView.{content};
@@ -10,9 +10,7 @@ ghost use Rattle.refusals.specs.declared.wide.When.TheVariants.{Look as AfterLoo
 ghost use Rattle.staged_levels.specs.StudyAnswers.{IsStaged};
 ghost use Rattle.study_answers.specs.Asking.{looks_asked};
 ghost use Rattle.study_answers.specs.CommandLines.{IsBelow};
-ghost use Rattle.study_answers.specs.AnswerView.{MayKeep};
-ghost use Rattle.study_answers.specs.StudyStages.{HasOpening, study_stage, on_looks};
-ghost use Rattle.study_answers.specs.KeeperWays.{over_opening, over_keeper};
+ghost use Rattle.study_answers.specs.KeeperWays.{opening_ways, answer_ways};
 
 use crate::StudyCommand;
 use crate::replying::{CommandStop, replies};
@@ -38,8 +36,7 @@ fn refused(refusal: Refusal) -> Answer
 /// Opens the study of a case, and takes all looks that a keeper holds.
 fn opened<K: Keeper>(alloc: Global, case: &Case, keeper: &mut K) -> Result<Register, Stop>
     requires { IsStaged (content case.now).inputs }
-    ensures ends { EndsIn (over_opening (content case.now) (Rose (K.faults keeper.old) (K.faults keeper.new)
-        × (K.calls keeper.new ≡ K.calls keeper.old + 1)) (K.faults keeper.new ≡ K.faults keeper.old) (K.looks keeper.old)) result }
+    ensures ends { EndsIn (opening_ways (content case.now) (keeping K.Keeper keeper.old) (keeping K.Keeper keeper.new)) result }
     ensures kept { K.looks keeper.new ≡ K.looks keeper.old }
     ensures later { K.faults keeper.old ≤ K.faults keeper.new }
     ensures turns { K.calls keeper.new ≤ K.calls keeper.old + 1 }
@@ -94,11 +91,8 @@ pub fn study_answer<K: Keeper>(
 ) -> Result<Answer, Stop>
     requires staged { IsStaged (content case.now).inputs }
     requires below { AllByRecursion (IsBelow (length (content case.now).names)) commands.now }
-    ensures ends { EndsIn (over_keeper (on_looks (K.looks keeper.old) (study_stage (content case.now) commands.now))
-        (MayKeep (content case.now) commands.now (K.looks keeper.old))
-        ⊥ (HasOpening (content case.now) × Rose (K.faults keeper.old) (K.faults keeper.new))
-        ⊤ (K.faults keeper.new ≡ K.faults keeper.old) (K.looks keeper.old) (K.looks keeper.new)
-        (K.calls keeper.old) (K.calls keeper.new)) result }
+    ensures ends { EndsIn (answer_ways (content case.now) commands.now
+        (keeping K.Keeper keeper.old) (keeping K.Keeper keeper.new)) result }
     ensures later { K.faults keeper.old ≤ K.faults keeper.new }
     ensures turns { K.calls keeper.new ≤ K.calls keeper.old + (1 + looks_asked commands.now) }
 {

@@ -1,14 +1,14 @@
 //! Replies to commands, one by one.
 ghost use Rattle.std.specs.Prelude.{◌≡◌, ◌≤◌, ◌<◌, ◌+◌, [], ◌∷◌, OnOk, IfErr, false, length};
 ghost use Rattle.std.specs.List.{AllByRecursion};
-ghost use Rattle.graph_io.specs.Causes.{Rose};
+ghost use Rattle.answers.specs.Devices.{keeping};
 ghost use Rattle.case_model.specs.CaseView.{content};
 ghost use Rattle.staged_levels.specs.StudyContents.{IsStudy};
 ghost use Rattle.study_answers.specs.CommandLines.{IsBelow};
 ghost use Rattle.study_answers.specs.Asking.{asks, looks_asked};
 ghost use Rattle.study_answers.specs.declared.command.StudyCommand.TheVariants.{Take as AskTake};
 ghost use Rattle.study_register.specs.RegisterView.{study_in, looks_in, is_spent};
-ghost use Rattle.study_answers.specs.AnswerView.{IsRepliedTo, AreRepliedTo, StopsCommands, IfBroken};
+ghost use Rattle.study_answers.specs.AnswerView.{RepliesTo, RepliesToAll, StopsOver, IfFaultless};
 
 use crate::StudyCommand;
 use case_model::Case;
@@ -44,16 +44,13 @@ fn take<K: Keeper>(
     requires study { IsStudy (content case.now) (study_in register.old) }
     requires fresh { is_spent register.old ≡ false }
     ensures study { IsStudy (content case.now) (study_in register.new) }
-    ensures replied { OnOk result (IsRepliedTo (content case.now) number (looks_in register.old) (AskTake look.now)
-        (K.looks keeper.old) (K.looks keeper.new) (K.calls keeper.old) (K.calls keeper.new) text.old text.new
-        (looks_in register.new)) }
-    ensures stopped { IfErr result (StopsCommands (content case.now) (Rose (K.faults keeper.old)
-        (K.faults keeper.new)) number (looks_in register.old) (AskTake look.now ∷ []) (K.looks keeper.old)
-        (K.looks keeper.new) (K.calls keeper.old) (K.calls keeper.new)) }
+    ensures replied { OnOk result (RepliesTo (content case.now) number (looks_in register.old) (AskTake look.now)
+        (keeping K.Keeper keeper.old) (keeping K.Keeper keeper.new) text.old text.new (looks_in register.new)) }
+    ensures stopped { IfErr result (StopsOver (content case.now) number (looks_in register.old) (AskTake look.now ∷ [])
+        (keeping K.Keeper keeper.old) (keeping K.Keeper keeper.new)) }
     ensures fresh { OnOk result (is_spent register.new ≡ false) }
     ensures later { K.faults keeper.old ≤ K.faults keeper.new }
-    ensures counted { OnOk result (K.faults keeper.new ≡ K.faults keeper.old) }
-    ensures broken { IfErr result (IfBroken (K.faults keeper.new ≡ K.faults keeper.old)) }
+    ensures counted { IfFaultless (K.faults keeper.new ≡ K.faults keeper.old) result }
     ensures turns { K.calls keeper.new ≤ K.calls keeper.old + 1 }
 {
     let before = register.settled().len();
@@ -87,16 +84,13 @@ fn reply<K: Keeper>(
     requires study { IsStudy (content case.now) (study_in register.old) }
     requires fresh { is_spent register.old ≡ false }
     ensures study { IsStudy (content case.now) (study_in register.new) }
-    ensures replied { OnOk result (IsRepliedTo (content case.now) number (looks_in register.old) command.now
-        (K.looks keeper.old) (K.looks keeper.new) (K.calls keeper.old) (K.calls keeper.new) text.old text.new
-        (looks_in register.new)) }
-    ensures stopped { IfErr result (StopsCommands (content case.now) (Rose (K.faults keeper.old)
-        (K.faults keeper.new)) number (looks_in register.old) (command.now ∷ []) (K.looks keeper.old)
-        (K.looks keeper.new) (K.calls keeper.old) (K.calls keeper.new)) }
+    ensures replied { OnOk result (RepliesTo (content case.now) number (looks_in register.old) command.now
+        (keeping K.Keeper keeper.old) (keeping K.Keeper keeper.new) text.old text.new (looks_in register.new)) }
+    ensures stopped { IfErr result (StopsOver (content case.now) number (looks_in register.old) (command.now ∷ [])
+        (keeping K.Keeper keeper.old) (keeping K.Keeper keeper.new)) }
     ensures fresh { OnOk result (is_spent register.new ≡ false) }
     ensures later { K.faults keeper.old ≤ K.faults keeper.new }
-    ensures counted { OnOk result (K.faults keeper.new ≡ K.faults keeper.old) }
-    ensures broken { IfErr result (IfBroken (K.faults keeper.new ≡ K.faults keeper.old)) }
+    ensures counted { IfFaultless (K.faults keeper.new ≡ K.faults keeper.old) result }
     ensures turns { K.calls keeper.new ≤ K.calls keeper.old + asks command.now }
 {
     match command {
@@ -122,15 +116,12 @@ pub(crate) fn replies<K: Keeper>(
     requires below { AllByRecursion (IsBelow (length (content case.now).names)) commands.now }
     requires study { IsStudy (content case.now) (study_in register.old) }
     requires fresh { is_spent register.old ≡ false }
-    ensures replied { OnOk result (AreRepliedTo (content case.now) (looks_in register.old) commands.now
-        (K.looks keeper.old) (K.looks keeper.new) (K.calls keeper.old) (K.calls keeper.new) text.old text.new
-        (looks_in register.new)) }
-    ensures stopped { IfErr result (StopsCommands (content case.now) (Rose (K.faults keeper.old)
-        (K.faults keeper.new)) 1 (looks_in register.old) commands.now (K.looks keeper.old) (K.looks keeper.new)
-        (K.calls keeper.old) (K.calls keeper.new)) }
+    ensures replied { OnOk result (RepliesToAll (content case.now) (looks_in register.old) commands.now
+        (keeping K.Keeper keeper.old) (keeping K.Keeper keeper.new) text.old text.new (looks_in register.new)) }
+    ensures stopped { IfErr result (StopsOver (content case.now) 1 (looks_in register.old) commands.now
+        (keeping K.Keeper keeper.old) (keeping K.Keeper keeper.new)) }
     ensures later { K.faults keeper.old ≤ K.faults keeper.new }
-    ensures counted { OnOk result (K.faults keeper.new ≡ K.faults keeper.old) }
-    ensures broken { IfErr result (IfBroken (K.faults keeper.new ≡ K.faults keeper.old)) }
+    ensures counted { IfFaultless (K.faults keeper.new ≡ K.faults keeper.old) result }
     ensures turns { K.calls keeper.new ≤ K.calls keeper.old + looks_asked commands.now }
 {
     for i in 0..commands.len() {

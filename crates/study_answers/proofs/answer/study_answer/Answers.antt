@@ -56,7 +56,7 @@ returns-in_err-broken_off-in-Err-Wide-clause-ends g c =
           r.ensures.loaded _ e.field-0
           e.ensures.stopped,
       tt,
-      broken_by e.field-0 e.place e.wide _ e.field-0-is e.ensures.broken ∙ r.ensures.ends.1,
+      broken_by e.field-0 e.place e.wide _ e.field-0-is e.ensures.counted ∙ r.ensures.ends.1,
     )
 
 pub returns-in-Err-Wide-clause-ends : goal.returns-in-Err-Wide-clause-ends
@@ -71,7 +71,7 @@ returns-in-Err-Wide-clause-ends g c =
           (first_broken k s commands _ _ _ _ _ e.field-0 e.place e.wide e.field-0-is e.ensures.stopped)
           (c.in_ok-broken_off-in-Err-Wide.ensures ∙ ap₂ (λ n w. refused (wide_refusal k.names (AfterLook n) w)) e.place-is e.wide-is),
       tt,
-      broken_by e.field-0 e.place e.wide _ e.field-0-is e.ensures.broken ∙ r.ensures.ends.1,
+      broken_by e.field-0 e.place e.wide _ e.field-0-is e.ensures.counted ∙ r.ensures.ends.1,
     )
 
 pub returns-in-Err-Fault-clause-ends : goal.returns-in-Err-Fault-clause-ends

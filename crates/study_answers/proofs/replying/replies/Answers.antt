@@ -60,12 +60,12 @@ loop-i-init g c = record {
   turns = omega arith;
 }
 
-pub returns-in-Err-clause-broken : goal.returns-in-Err-clause-broken
-returns-in-Err-clause-broken g c =
+pub returns-in-Err-clause-counted : goal.returns-in-Err-clause-counted
+returns-in-Err-clause-counted g c =
     let faults = g.K.Keeper.faults in
     let now = faults c.reply.new.keeper in
     broken_weaker c.in-Err.stop (now ≡ faults c.loop-i.keeper) (now ≡ faults c.args.keeper.now)
-    (λ e. e ∙ c.loop-i.invariant.same) c.in-Err.ensures.broken
+    (λ e. e ∙ c.loop-i.invariant.same) c.in-Err.ensures.counted
 
 pub returns-in-Err-clause-turns : goal.returns-in-Err-clause-turns
 returns-in-Err-clause-turns g c =

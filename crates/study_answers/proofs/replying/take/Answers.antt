@@ -87,5 +87,5 @@ returns-in-Err-Fault-clause-stopped g c =
     (added_failed k old c.args.look.now rose e.field-0 e.field-0-is (e.ensures.fault k c.requires.study)) e.ensures.unchanged
     (failed_turns before now e.field-0 e.field-0-is (c.add.ensures.turns ∙ ap (λ r. before + turns_of r) e.is))
 
-pub returns-in-Err-NoMemory-clause-broken : goal.returns-in-Err-NoMemory-clause-broken
-returns-in-Err-NoMemory-clause-broken g c = let e = c.in-Err-NoMemory in left_memory _ e.field-0 e.field-0-is e.ensures.memory
+pub returns-in-Err-NoMemory-clause-counted : goal.returns-in-Err-NoMemory-clause-counted
+returns-in-Err-NoMemory-clause-counted g c = let e = c.in-Err-NoMemory in left_memory _ e.field-0 e.field-0-is e.ensures.memory
