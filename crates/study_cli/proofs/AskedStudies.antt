@@ -1,5 +1,6 @@
 -- What a call with words does, from what the study that they ask for does.
 use Rattle.std.proofs.Common.{◌≡◌, ◌⊎◌, inl, inr, sym, ◌∙◌, subst, ℕ, List, Result, Ok, Err}
+use Rattle.std.specs.Prelude.{OnOk}
 use Rattle.std.specs.declared.option.Option.{Option}
 use Rattle.graph_io.specs.declared.keeper.Look.{Look}
 use Rattle.answers.specs.declared.answer.Answer.{Answer}
@@ -63,3 +64,12 @@ case_is_staged asked case c h = awaited_staged c.inputs (subst (λ (x : Content)
 -- words that aren't accepted ask a study for nothing
 pub unasked : (words : List (List ℕ)) (asked : StudyAsked) (n : ℕ) → AskStudy words asked → study_in words ≡ Err n → ⊥
 unasked words asked n a e = (stage_decided (study_in words)).not_both asked n a e
+
+-- two facts that come with an answer, one by one
+pub first_on : (result : Result Answer Stop) (P Q : Type 0) → OnOk result (P × Q) → OnOk result P
+first_on (Ok a) P Q h = h.0
+first_on (Err stop) P Q h = tt
+
+pub second_on : (result : Result Answer Stop) (P Q : Type 0) → OnOk result (P × Q) → OnOk result Q
+second_on (Ok a) P Q h = h.1
+second_on (Err stop) P Q h = tt

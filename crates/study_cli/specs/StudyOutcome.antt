@@ -1,8 +1,14 @@
 -- What words, a case, commands and kept looks call for: the first stage that refuses decides.
-use Rattle.std.specs.Prelude.{◌≡◌, ◌⊎◌, ◌≤◌, ◌+◌, ℕ, List, [], Option, Some, codes}
+use Rattle.std.specs.Prelude.{◌≡◌, ◌⊎◌, ◌≤◌, ◌+◌, ℕ, List, [], Option, Some, Result, OnOk, codes}
+use Rattle.std.specs.Io.KnownBytes.{IsAtEnd}
+use Rattle.graph_io.specs.Causes.{Rose}
 use Rattle.graph_io.specs.declared.keeper.Look.{Look}
+use Rattle.answers.specs.declared.answer.Answer.{Answer}
 use Rattle.answers.specs.declared.refusal.Refusal.{Refusal}
+use Rattle.answers.specs.declared.stop.Stop.{Stop}
+use Rattle.answers.specs.Devices.{Reading, Keeping}
 use Rattle.answers.specs.Stages.{Stage, and_then, told_as, on_bytes, within}
+use Rattle.answers.specs.Ways.{Ways}
 use Rattle.case_model.specs.Content.{Content}
 use Rattle.command_words.specs.Asked.{StudyAsked}
 use Rattle.command_words.specs.Words.{study_in, stage_of}
@@ -18,6 +24,7 @@ use Rattle.study_answers.specs.CommandLines.{AreCommands}
 use Rattle.study_answers.specs.CommandFaults.{IsFirstFault}
 use Rattle.study_answers.specs.declared.command.StudyCommand.{StudyCommand}
 use Rattle.study_answers.specs.AnswerView.{MayKeep}
+use Rattle.study_answers.specs.KeeperWays.{over_keeper}
 use Rattle.study_answers.specs.StudyStages.{StudyEnd, HasOpening, study_stage, on_looks}
 
 -- what a study needs of its case: p-values of stages of which none has arrived
@@ -108,6 +115,33 @@ MayEnd words case commands kept more = (more ≡ []) ⊎ ((asked : StudyAsked) �
 abbrev pub CallsWithin : List (List ℕ) → Option (List ℕ) → Option (List ℕ) → (before now : ℕ) → Type 0
 CallsWithin words case commands before now =
     (now ≡ before) ⊎ ((asked : StudyAsked) × AskStudy words asked × IsCalledWithin asked case commands before now)
+
+-- ---- how a call may end, and what it does to a source
+
+-- The ways in which a study may end, by what its case, its commands and its keeper were and are.
+abbrev pub study_ways : StudyAsked → (case_old case_new commands_old commands_new : Reading) → (keeper_old keeper_new : Keeping) → Ways Answer
+study_ways asked case_old case_new commands_old commands_new keeper_old keeper_new =
+    over_keeper (study_call asked case_old.left commands_old.left keeper_old.looks)
+    (MayBeKept asked case_old.left commands_old.left keeper_old.looks)
+    (Rose case_old.faults case_new.faults ⊎ (IsStudied asked case_old.left × Rose commands_old.faults commands_new.faults))
+    (IsOpened asked case_old.left commands_old.left × Rose keeper_old.faults keeper_new.faults)
+    ((case_new.faults ≡ case_old.faults) × (commands_new.faults ≡ commands_old.faults)) (keeper_new.faults ≡ keeper_old.faults)
+    keeper_old.looks keeper_new.looks keeper_old.calls keeper_new.calls
+
+-- The ways in which a call with these words may end, by what its case, its commands and its keeper were and are.
+abbrev pub ways_of : List (List ℕ) → (case_old case_new commands_old commands_new : Reading) → (keeper_old keeper_new : Keeping) → Ways Answer
+ways_of words case_old case_new commands_old commands_new keeper_old keeper_new =
+    over_keeper (study_outcome words case_old.left commands_old.left keeper_old.looks)
+    (MayEnd words case_old.left commands_old.left keeper_old.looks)
+    (ReadRose words case_old.left (Rose case_old.faults case_new.faults) (Rose commands_old.faults commands_new.faults))
+    (KeeperRose words case_old.left commands_old.left (Rose keeper_old.faults keeper_new.faults))
+    ((case_new.faults ≡ case_old.faults) × (commands_new.faults ≡ commands_old.faults)) (keeper_new.faults ≡ keeper_old.faults)
+    keeper_old.looks keeper_new.looks keeper_old.calls keeper_new.calls
+
+-- What a call that ends so does to a source. If it doesn't read it, it leaves it as it was. With an answer it has read it to its end.
+pub record TakesFrom {S : Type 0} (left : S → Option (List ℕ)) (Reads : Type 0) (old new : S) (result : Result Answer Stop) : Type 0 where
+  pub untouched : ¬ Reads → new ≡ old
+  pub end : Reads → OnOk result (IsAtEnd (left new))
 
 -- ---- the file of the looks
 

@@ -1,34 +1,30 @@
 //! The top call of studies.
-ghost use Rattle.std.specs.Prelude.{◌≡◌, ◌<◌, ◌⊎◌, IfOk, OnOk, map, string_bytes, length};
+ghost use Rattle.std.specs.Prelude.{◌≡◌, ◌<◌, IfOk, OnOk, length};
 ghost use Rattle.std.specs.List.{AllByRecursion};
 ghost use Rattle.std.specs.Io.KnownBytes.{IsAtEnd};
-ghost use Rattle.graph_io.specs.Causes.{Rose};
+ghost use Rattle.answers.specs.Devices.{reading, writing, keeping};
 ghost use Rattle.answers.specs.Runs.{Runs, Uses, IsConcluded};
 ghost use Rattle.answers.specs.Ways.{EndsIn, IfConcluded, over_values};
 ghost use Rattle.case_model.specs.CaseView.{content};
 ghost use Rattle.command_words.specs.Asked.{study_asked};
+ghost use Rattle.command_words.specs.WordBytes.{words_in};
 ghost use Rattle.graph_cli.specs.Accepted.{IsTakenWithin};
 ghost use Rattle.study_answers.specs.CommandLines.{IsBelow};
-ghost use Rattle.study_answers.specs.KeeperWays.{over_keeper};
 ghost use Rattle.study_cli.specs.StudyOutcome.{
   study_needs,
   commands_in,
-  study_call,
-  study_outcome,
+  study_ways,
+  ways_of,
   IsStudied,
   IsUnstudied,
   IsCommanded,
-  IsOpened,
   IsCalledWithin,
-  MayBeKept,
   ReadsCase,
   ReadsCommands,
   AsksKeeper,
   RefusesCase,
-  ReadRose,
-  KeeperRose,
-  MayEnd,
   CallsWithin,
+  TakesFrom,
 };
 
 use answers::{Answer, Stop, conclude, take_whole};
@@ -71,20 +67,12 @@ fn study_call<S: Source, T: Source, K: Keeper>(
     commands: &mut T,
     keeper: &mut K,
 ) -> Result<Answer, Stop>
-    ensures ends { EndsIn (over_keeper
-        (study_call (study_asked call.now) (S.left case.old) (T.left commands.old) (K.looks keeper.old))
-        (MayBeKept (study_asked call.now) (S.left case.old) (T.left commands.old) (K.looks keeper.old))
-        (Rose (S.faults case.old) (S.faults case.new) ⊎
-        (IsStudied (study_asked call.now) (S.left case.old) × Rose (T.faults commands.old) (T.faults commands.new)))
-        (IsOpened (study_asked call.now) (S.left case.old) (T.left commands.old) × Rose (K.faults keeper.old) (K.faults keeper.new))
-        ((S.faults case.new ≡ S.faults case.old) × (T.faults commands.new ≡ T.faults commands.old))
-        (K.faults keeper.new ≡ K.faults keeper.old)
-        (K.looks keeper.old) (K.looks keeper.new) (K.calls keeper.old) (K.calls keeper.new)) result }
-    ensures case_end { OnOk result (IsAtEnd (S.left case.new)) }
+    ensures ends { EndsIn (study_ways (study_asked call.now) (reading S.Source case.old) (reading S.Source case.new)
+        (reading T.Source commands.old) (reading T.Source commands.new)
+        (keeping K.Keeper keeper.old) (keeping K.Keeper keeper.new)) result }
+    ensures ended { OnOk result (IsAtEnd (S.left case.new) × IsAtEnd (T.left commands.new)) }
     ensures commands_kept { ¬ IsStudied (study_asked call.now) (S.left case.old) → commands.new ≡ commands.old }
-    ensures commands_end { OnOk result (IsAtEnd (T.left commands.new)) }
-    ensures keeper_kept { ¬ IsCommanded (study_asked call.now) (S.left case.old) (T.left commands.old) →
-        keeper.new ≡ keeper.old }
+    ensures keeper_kept { ¬ IsCommanded (study_asked call.now) (S.left case.old) (T.left commands.old) → keeper.new ≡ keeper.old }
     ensures commands_asked { ¬ IsUnstudied (study_asked call.now) (S.left case.old) →
         IfConcluded (T.calls commands.old < T.calls commands.new) result }
     ensures case_taken { IsTakenWithin S.left S.calls case.old case.new }
@@ -107,30 +95,17 @@ fn answer<S: Source, T: Source, K: Keeper>(
     commands: &mut T,
     keeper: &mut K,
 ) -> Result<Answer, Stop>
-    ensures ends { EndsIn (over_keeper
-        (study_outcome (map string_bytes words.now) (S.left case.old) (T.left commands.old) (K.looks keeper.old))
-        (MayEnd (map string_bytes words.now) (S.left case.old) (T.left commands.old) (K.looks keeper.old))
-        (ReadRose (map string_bytes words.now) (S.left case.old)
-        (Rose (S.faults case.old) (S.faults case.new)) (Rose (T.faults commands.old) (T.faults commands.new)))
-        (KeeperRose (map string_bytes words.now) (S.left case.old) (T.left commands.old)
-        (Rose (K.faults keeper.old) (K.faults keeper.new)))
-        ((S.faults case.new ≡ S.faults case.old) × (T.faults commands.new ≡ T.faults commands.old))
-        (K.faults keeper.new ≡ K.faults keeper.old)
-        (K.looks keeper.old) (K.looks keeper.new) (K.calls keeper.old) (K.calls keeper.new)) result }
-    ensures case_kept { ¬ ReadsCase (map string_bytes words.now) → case.new ≡ case.old }
-    ensures case_end { ReadsCase (map string_bytes words.now) → OnOk result (IsAtEnd (S.left case.new)) }
-    ensures commands_kept { ¬ ReadsCommands (map string_bytes words.now) (S.left case.old) →
-        commands.new ≡ commands.old }
-    ensures commands_end { ReadsCommands (map string_bytes words.now) (S.left case.old) →
-        OnOk result (IsAtEnd (T.left commands.new)) }
-    ensures keeper_kept { ¬ AsksKeeper (map string_bytes words.now) (S.left case.old) (T.left commands.old) →
-        keeper.new ≡ keeper.old }
-    ensures commands_asked { ReadsCommands (map string_bytes words.now) (S.left case.old) →
-        ¬ RefusesCase (map string_bytes words.now) (S.left case.old) →
-        IfConcluded (T.calls commands.old < T.calls commands.new) result }
+    ensures ends { EndsIn (ways_of (words_in words.now) (reading S.Source case.old) (reading S.Source case.new)
+        (reading T.Source commands.old) (reading T.Source commands.new)
+        (keeping K.Keeper keeper.old) (keeping K.Keeper keeper.new)) result }
+    ensures case { TakesFrom S.left (ReadsCase (words_in words.now)) case.old case.new result }
+    ensures commands { TakesFrom T.left (ReadsCommands (words_in words.now) (S.left case.old)) commands.old commands.new result }
+    ensures keeper_kept { ¬ AsksKeeper (words_in words.now) (S.left case.old) (T.left commands.old) → keeper.new ≡ keeper.old }
+    ensures commands_asked { ReadsCommands (words_in words.now) (S.left case.old) →
+        ¬ RefusesCase (words_in words.now) (S.left case.old) → IfConcluded (T.calls commands.old < T.calls commands.new) result }
     ensures case_taken { IsTakenWithin S.left S.calls case.old case.new }
     ensures commands_taken { IsTakenWithin T.left T.calls commands.old commands.new }
-    ensures turns { CallsWithin (map string_bytes words.now) (S.left case.old) (T.left commands.old)
+    ensures turns { CallsWithin (words_in words.now) (S.left case.old) (T.left commands.old)
         (K.calls keeper.old) (K.calls keeper.new) }
 {
     match read_study(words) {
@@ -161,29 +136,17 @@ pub fn run_study<S: Source, T: Source, K: Keeper, W: Sink>(
     keeper: &mut K,
     out: &mut W,
 ) -> u8
-    ensures runs { Runs (over_keeper
-        (study_outcome (map string_bytes words.now) (S.left case.old) (T.left commands.old) (K.looks keeper.old))
-        (MayEnd (map string_bytes words.now) (S.left case.old) (T.left commands.old) (K.looks keeper.old))
-        (ReadRose (map string_bytes words.now) (S.left case.old)
-        (Rose (S.faults case.old) (S.faults case.new)) (Rose (T.faults commands.old) (T.faults commands.new)))
-        (KeeperRose (map string_bytes words.now) (S.left case.old) (T.left commands.old)
-        (Rose (K.faults keeper.old) (K.faults keeper.new)))
-        ((S.faults case.new ≡ S.faults case.old) × (T.faults commands.new ≡ T.faults commands.old))
-        (K.faults keeper.new ≡ K.faults keeper.old)
-        (K.looks keeper.old) (K.looks keeper.new) (K.calls keeper.old) (K.calls keeper.new))
-        (Rose (W.faults out.old) (W.faults out.new)) (W.faults out.new ≡ W.faults out.old)
-        (W.held out.old) (W.held out.new) (W.calls out.old) (W.calls out.new) result }
-    ensures case { Uses S.left (ReadsCase (map string_bytes words.now)) case.old case.new result }
-    ensures commands { Uses T.left (ReadsCommands (map string_bytes words.now) (S.left case.old))
-        commands.old commands.new result }
-    ensures untouched { ¬ AsksKeeper (map string_bytes words.now) (S.left case.old) (T.left commands.old) →
-        keeper.new ≡ keeper.old }
-    ensures commands_asked { ReadsCommands (map string_bytes words.now) (S.left case.old) →
-        ¬ RefusesCase (map string_bytes words.now) (S.left case.old) → IsConcluded result →
-        T.calls commands.old < T.calls commands.new }
+    ensures runs { Runs (ways_of (words_in words.now) (reading S.Source case.old) (reading S.Source case.new)
+        (reading T.Source commands.old) (reading T.Source commands.new) (keeping K.Keeper keeper.old) (keeping K.Keeper keeper.new))
+        (writing W.Sink out.old) (writing W.Sink out.new) result }
+    ensures case { Uses S.left (ReadsCase (words_in words.now)) case.old case.new result }
+    ensures commands { Uses T.left (ReadsCommands (words_in words.now) (S.left case.old)) commands.old commands.new result }
+    ensures untouched { ¬ AsksKeeper (words_in words.now) (S.left case.old) (T.left commands.old) → keeper.new ≡ keeper.old }
+    ensures commands_asked { ReadsCommands (words_in words.now) (S.left case.old) →
+        ¬ RefusesCase (words_in words.now) (S.left case.old) → IsConcluded result → T.calls commands.old < T.calls commands.new }
     ensures case_taken { IsTakenWithin S.left S.calls case.old case.new }
     ensures commands_taken { IsTakenWithin T.left T.calls commands.old commands.new }
-    ensures turns { CallsWithin (map string_bytes words.now) (S.left case.old) (T.left commands.old)
+    ensures turns { CallsWithin (words_in words.now) (S.left case.old) (T.left commands.old)
         (K.calls keeper.old) (K.calls keeper.new) }
 {
     let outcome = answer(alloc, words, case, commands, keeper);
