@@ -2,17 +2,17 @@
 use Rattle.std.specs.Prelude.{◌≡◌, ◌⊎◌, ◌≤◌, ◌+◌, ℕ, List, [], Option, Some}
 use Rattle.std.specs.Io.KnownBytes.{IsAtEnd}
 use Rattle.std.specs.List.{slice_get}
-use Rattle.graph_io.specs.Causes.{Rose}
 use Rattle.graph_io.specs.Reading.{TookAtMost}
 use Rattle.graph_io.specs.declared.keeper.Look.{Look}
-use Rattle.answers.specs.declared.answer.Answer.{Answer}
-use Rattle.answers.specs.Runs.{IsConcluded}
+use Rattle.graph_io.specs.declared.reading.Source.{Ghosts as SourceGhosts}
+use Rattle.graph_io.specs.declared.writing.Sink.{Ghosts as SinkGhosts}
+use Rattle.answers.specs.Devices.{Reading, Writing, Keeping, reading, writing}
+use Rattle.answers.specs.Runs.{Runs, IsConcluded}
 use Rattle.answers.specs.Stages.{most_bytes}
-use Rattle.answers.specs.Ways.{Ways, over_source}
 use Rattle.graph_cli.specs.Outcome as graph
-use Rattle.study_answers.specs.KeeperWays.{over_keeper}
 use Rattle.study_cli.specs.StudyOutcome as study
 use Rattle.program.specs.Asks.{Ask, open_file, close_file, open_store, close_store}
+use Rattle.program.specs.declared.opener.Opener.{Ghosts}
 
 -- the path of the file that the words name: a proof, or the commands of a study
 abbrev pub NamesPath : List (List ℕ) → List ℕ → Type 0
@@ -32,62 +32,97 @@ pub record IsStopped (status : ℕ) (same asked : Type 0) : Type 0 where
   pub same_is : same
   pub asked_for : asked
 
--- A call was made over the file that the words name, and `Done` says what was done. The opener is `from` when it was requested to open the file, and
--- `to` after the call. `before` is what the file held, and `after` what is left of it. It was given back with the number of its calls, and of those
--- that failed. A file that was refused has no bytes, and is not given back; if it was taken from, a take failed. If no file is named, none is requested.
-pub record IsOver {O : Type 0} (Does : O → Ask → O → Type 0) (bytes_at : O → List ℕ → Option (List ℕ)) (MayRefuse : O → List ℕ → Type 0)
-    (words : List (List ℕ)) (old new : O) (Done : O → O → (before after : Option (List ℕ)) (faults calls : ℕ) → Type 0) : Type 0 where
-  pub from : O
-  pub to : O
-  pub before : Option (List ℕ)
-  pub after : Option (List ℕ)
-  pub faults : ℕ
-  pub calls : ℕ
-  pub file :
-      ((path : List ℕ) × NamesPath words path × Does old (open_file path) from
-      × (((before ≡ bytes_at old path) × Does to (close_file path after faults calls) new)
-      ⊎ (MayRefuse old path × (before ≡ Some []) × (1 ≤ calls → 1 ≤ faults) × (new ≡ to))))
-      ⊎ (((path : List ℕ) → ¬ NamesPath words path) × (from ≡ old) × (new ≡ to) × (before ≡ Some []) × (faults ≡ 0))
-  pub done : Done from to before after faults calls
+-- a file that wasn't called yet, with what it holds
+abbrev pub unread : Option (List ℕ) → Reading
+unread bytes = record { left = bytes; faults = 0; calls = 0 }
+
+-- a store that wasn't called yet, with what it keeps
+abbrev pub uncalled : Option (List Look) → Keeping
+uncalled looks = record { looks = looks; faults = 0; calls = 0 }
+
+-- A file that held this wasn't called: it holds the same, without a call and a fault.
+abbrev pub IsUnread : Option (List ℕ) → Reading → Type 0
+IsUnread before after = (after.left ≡ before) × (after.faults ≡ 0) × (after.calls ≡ 0)
 
 -- What was done with a file. One that isn't read is as it was. With status 0, one that is read was read to its end. At most one byte more than it may
 -- have was taken of it, by few takes. If it is read, and nothing before it is refused, a concluded call has taken from it.
-pub record IsUsed (Reads Refuses : Type 0) (before after : Option (List ℕ)) (faults calls status : ℕ) : Type 0 where
-  pub untouched : ¬ Reads → (after ≡ before) × (faults ≡ 0) × (calls ≡ 0)
-  pub end : Reads → status ≡ 0 → IsAtEnd after
-  pub asked : Reads → ¬ Refuses → IsConcluded status → 1 ≤ calls
-  pub taken : IsAtEnd after ⊎ TookAtMost before after (most_bytes + 1)
-  pub turns : calls ≤ most_bytes + 1
+pub record IsUsed (Reads Refuses : Type 0) (before : Option (List ℕ)) (after : Reading) (status : ℕ) : Type 0 where
+  pub untouched : ¬ Reads → IsUnread before after
+  pub end : Reads → status ≡ 0 → IsAtEnd after.left
+  pub asked : Reads → ¬ Refuses → IsConcluded status → 1 ≤ after.calls
+  pub taken : IsAtEnd after.left ⊎ TookAtMost before after.left (most_bytes + 1)
+  pub turns : after.calls ≤ most_bytes + 1
 
--- The store that the words name was requested, and held the looks `kept`. It was given back with the looks `held`, and with the number of its calls,
--- and of those that failed. If no store is named, none is requested, there are no looks before and no faults, and the number of calls is left open.
-abbrev pub IsStored : {O : Type 0} → (O → Ask → O → Type 0) → (O → List ℕ → Option (List Look)) → List (List ℕ)
-    → O → O → (kept held : Option (List Look)) → (faults calls : ℕ) → Type 0
-IsStored {O} Does looks_at words from to kept held faults calls =
-    ((path : List ℕ) × study.NamesStore words path × (asked : O) × Does from (open_store path) asked × (kept ≡ looks_at from path)
-    × Does asked (close_store path held faults calls) to)
-    ⊎ (((path : List ℕ) → ¬ study.NamesStore words path) × (to ≡ from) × (kept ≡ Some []) × (faults ≡ 0))
-
--- A call that is none of a study: what was done is what `run` does over the file. `Ran` says what was done in such ways.
-pub record IsRun {O : Type 0} (words : List (List ℕ)) (case : Option (List ℕ)) (case_rose case_same : Type 0) (from to : O)
-    (before after : Option (List ℕ)) (faults calls status : ℕ) (Ran : Ways Answer → Type 0) : Type 0 where
+-- A call that is none of a study: what was done is what `run` does over the file. The opener is `from` before it and `to` after it, and the file held
+-- `before` and is `after`.
+pub record IsRun {O : Type 0} (words : List (List ℕ)) (case_old case_new : Reading) (from to : O) (before : Option (List ℕ)) (after : Reading)
+    (out_old out_new : Writing) (status : ℕ) : Type 0 where
   pub same : to ≡ from
-  pub used : IsUsed (graph.ReadsProof words case) (graph.RefusesCase words case) before after faults calls status
-  pub ran : Ran (over_source (graph.outcome words case before) (graph.ReadRose words case case_rose (Rose 0 faults)) (case_same × (faults ≡ 0)))
+  pub used : IsUsed (graph.ReadsProof words case_old.left) (graph.RefusesCase words case_old.left) before after status
+  pub ran : Runs (graph.ways_of words case_old case_new (unread before) after) out_old out_new status
 
--- A call of a study: what was done is what `run_study` does over the file and the looks that were kept.
-pub record IsStudied {O : Type 0} (Does : O → Ask → O → Type 0) (looks_at : O → List ℕ → Option (List Look)) (words : List (List ℕ))
-    (case : Option (List ℕ)) (case_rose case_same : Type 0) (from to : O) (before after : Option (List ℕ)) (faults calls status : ℕ)
-    (Ran : Ways Answer → Type 0) : Type 0 where
-  pub kept : Option (List Look)
-  pub held : Option (List Look)
-  pub keeper_faults : ℕ
-  pub keeper_calls : ℕ
-  pub stored : IsStored Does looks_at words from to kept held keeper_faults keeper_calls
-  -- a store of which no looks are requested is as it was
-  pub untouched : ¬ study.AsksKeeper words case before → (held ≡ kept) × (keeper_faults ≡ 0)
-  pub turns : study.CallsWithin words case before 0 keeper_calls
-  pub used : IsUsed (study.ReadsCommands words case) (study.RefusesCase words case) before after faults calls status
-  pub ran : Ran (over_keeper (study.study_outcome words case before kept) (study.MayEnd words case before kept)
-      (study.ReadRose words case case_rose (Rose 0 faults)) (study.KeeperRose words case before (Rose 0 keeper_faults))
-      (case_same × (faults ≡ 0)) (keeper_faults ≡ 0) kept held 0 keeper_calls)
+module _ {O F K : Type 0} (opener : Ghosts O F K) (words : List (List ℕ)) where
+  -- A call was made over the file that the words name, and `Done` says what was done. The opener is `from` when it was requested to open the file,
+  -- and `to` after the call. `before` is what the file held, and `after` is the file then. It was given back with the number of its calls, and of
+  -- those that failed. A file that was refused has no bytes, and is not given back; if it was taken from, a take failed. If no file is named, none is
+  -- requested.
+  pub record IsOver (old new : O) (Done : O → O → Option (List ℕ) → Reading → Type 0) : Type 0 where
+    pub from : O
+    pub to : O
+    pub before : Option (List ℕ)
+    pub after : Reading
+    pub file :
+        ((path : List ℕ) × NamesPath words path × opener.does old (open_file path) from
+        × (((before ≡ opener.bytes_at old path) × opener.does to (close_file path after.left after.faults after.calls) new)
+        ⊎ (opener.may_refuse old path × (before ≡ Some []) × (1 ≤ after.calls → 1 ≤ after.faults) × (new ≡ to))))
+        ⊎ (((path : List ℕ) → ¬ NamesPath words path) × (from ≡ old) × (new ≡ to) × (before ≡ Some []) × (after.faults ≡ 0))
+    pub done : Done from to before after
+
+  -- The store that the words name was requested, and held the looks `kept`. It was given back as it is then, with its looks, and with the number of its
+  -- calls, and of those that failed. If no store is named, none is requested, there are no looks before and no faults, and the number of calls is left
+  -- open.
+  abbrev pub IsStored : (from to : O) → (kept : Option (List Look)) → (store : Keeping) → Type 0
+  IsStored from to kept store =
+      ((path : List ℕ) × study.NamesStore words path × (asked : O) × opener.does from (open_store path) asked × (kept ≡ opener.looks_at from path)
+      × opener.does asked (close_store path store.looks store.faults store.calls) to)
+      ⊎ (((path : List ℕ) → ¬ study.NamesStore words path) × (to ≡ from) × (kept ≡ Some []) × (store.faults ≡ 0))
+
+  -- A call of a study: what was done is what `run_study` does over the file and the looks that were kept.
+  pub record IsStudied (case_old case_new : Reading) (from to : O) (before : Option (List ℕ)) (after : Reading) (out_old out_new : Writing) (status : ℕ)
+      : Type 0 where
+    pub kept : Option (List Look)
+    pub store : Keeping
+    pub stored : IsStored from to kept store
+    -- a store of which no looks are requested is as it was
+    pub untouched : ¬ study.AsksKeeper words case_old.left before → (store.looks ≡ kept) × (store.faults ≡ 0)
+    pub turns : study.CallsWithin words case_old.left before 0 store.calls
+    pub used : IsUsed (study.ReadsCommands words case_old.left) (study.RefusesCase words case_old.left) before after status
+    pub ran : Runs (study.ways_of words case_old case_new (unread before) after (uncalled kept) store) out_old out_new status
+
+-- What a call does by these words: to the opener, to its case and to its sink.
+module _ {O F K S W : Type 0} (opener : Ghosts O F K) (source : SourceGhosts S) (sink : SinkGhosts W) (words : List (List ℕ))
+    (case_old case_new : S) (out_old out_new : W) (status : ℕ) where
+  -- `run` was called over the file
+  abbrev pub MakesRun : (from to : O) → Option (List ℕ) → Reading → Type 0
+  MakesRun from to before after =
+      IsRun words (reading source case_old) (reading source case_new) from to before after (writing sink out_old) (writing sink out_new) status
+
+  -- `run_study` was called over the file, or there was no memory to open the store that the words name; then all is as it was
+  abbrev pub MakesStudy : (from to : O) → Option (List ℕ) → Reading → Type 0
+  MakesStudy from to before after =
+      IsStopped status ((case_new ≡ case_old) × (out_new ≡ out_old) × IsUnread before after) (IsAskedForStore opener.does words from to)
+      ⊎ IsStudied opener words (reading source case_old) (reading source case_new) from to before after
+      (writing sink out_old) (writing sink out_new) status
+
+  -- the call was made over the file that the words name, or there was no memory to open it; then the case and the sink are as they were
+  abbrev pub OpensFor : (Done : O → O → Option (List ℕ) → Reading → Type 0) → (old new : O) → Type 0
+  OpensFor Done old new =
+      IsStopped status ((case_new ≡ case_old) × (out_new ≡ out_old)) (IsAskedForFile opener.does words old new) ⊎ IsOver opener words old new Done
+
+  -- what is done for words that ask a study for nothing
+  abbrev pub CallsRun : (old new : O) → Type 0
+  CallsRun = OpensFor MakesRun
+
+  -- what is done for words that ask a study for something
+  abbrev pub CallsStudy : (old new : O) → Type 0
+  CallsStudy = OpensFor MakesStudy

@@ -1,14 +1,13 @@
 //! A call over the file that its words name.
-ghost use Rattle.std.specs.Prelude.{◌≡◌, ◌⊎◌, ℕ, List as Seq, map, string_bytes};
-ghost use Rattle.std.specs.declared.option.Option.{Option};
+ghost use Rattle.std.specs.Prelude.{◌≡◌};
 ghost use Rattle.std.specs.Io.KnownBytes.{IsAtEnd};
-ghost use Rattle.graph_io.specs.Causes.{Rose};
-ghost use Rattle.answers.specs.Runs.{Runs};
+ghost use Rattle.answers.specs.Devices.{reading};
+ghost use Rattle.command_words.specs.WordBytes.{words_in};
 ghost use Rattle.command_words.specs.Words.{AsksStudy};
 ghost use Rattle.graph_cli.specs.Accepted.{IsTakenWithin};
 ghost use Rattle.graph_cli.specs.Outcome.{ReadsCase};
 ghost use Rattle.study_cli.specs.StudyOutcome.{ReadsCase as ReadsStudyCase};
-ghost use Rattle.program.specs.Calls.{IsAskedForStore, IsStopped, IsRun, IsStudied};
+ghost use Rattle.program.specs.Calls.{MakesRun, MakesStudy};
 
 use crate::Opener;
 use command_words::asks_study;
@@ -30,16 +29,10 @@ fn run_stored<O: Opener, S: Source, T: Source, W: Sink>(
 ) -> u8
     requires faults { T.faults commands.old ≡ 0 }
     requires calls { T.calls commands.old ≡ 0 }
-    ensures study { IsStopped result ((case.new ≡ case.old) × (out.new ≡ out.old)
-        × (T.left commands.new ≡ T.left commands.old) × (T.faults commands.new ≡ 0) × (T.calls commands.new ≡ 0))
-        (IsAskedForStore O.does (map string_bytes words.now) opener.old opener.new)
-        ⊎ IsStudied O.does O.looks_at (map string_bytes words.now) (S.left case.old)
-        (Rose (S.faults case.old) (S.faults case.new)) (S.faults case.new ≡ S.faults case.old)
-        opener.old opener.new (T.left commands.old) (T.left commands.new) (T.faults commands.new) (T.calls commands.new) result
-        (λ ways. Runs ways (Rose (W.faults out.old) (W.faults out.new)) (W.faults out.new ≡ W.faults out.old)
-        (W.held out.old) (W.held out.new) (W.calls out.old) (W.calls out.new) result) }
-    ensures untouched { ¬ ReadsStudyCase (map string_bytes words.now) → case.new ≡ case.old }
-    ensures study_end { ReadsStudyCase (map string_bytes words.now) → result ≡ 0 → IsAtEnd (S.left case.new) }
+    ensures study { MakesStudy O.Opener S.Source W.Sink (words_in words.now) case.old case.new out.old out.new result
+        opener.old opener.new (T.left commands.old) (reading T.Source commands.new) }
+    ensures untouched { ¬ ReadsStudyCase (words_in words.now) → case.new ≡ case.old }
+    ensures study_end { ReadsStudyCase (words_in words.now) → result ≡ 0 → IsAtEnd (S.left case.new) }
     ensures case_taken { IsTakenWithin S.left S.calls case.old case.new }
 {
     match store_path(words) {
@@ -69,27 +62,15 @@ pub(crate) fn run_over<O: Opener, S: Source, T: Source, W: Sink>(
 ) -> u8
     requires faults { T.faults file.old ≡ 0 }
     requires calls { T.calls file.old ≡ 0 }
-    ensures run { ¬ AsksStudy (map string_bytes words.now)
-        → IsRun (map string_bytes words.now) (S.left case.old)
-        (Rose (S.faults case.old) (S.faults case.new)) (S.faults case.new ≡ S.faults case.old)
-        opener.old opener.new (T.left file.old) (T.left file.new) (T.faults file.new) (T.calls file.new) result
-        (λ ways. Runs ways (Rose (W.faults out.old) (W.faults out.new)) (W.faults out.new ≡ W.faults out.old)
-        (W.held out.old) (W.held out.new) (W.calls out.old) (W.calls out.new) result) }
-    ensures study { AsksStudy (map string_bytes words.now)
-        → IsStopped result ((case.new ≡ case.old) × (out.new ≡ out.old)
-        × (T.left file.new ≡ T.left file.old) × (T.faults file.new ≡ 0) × (T.calls file.new ≡ 0))
-        (IsAskedForStore O.does (map string_bytes words.now) opener.old opener.new)
-        ⊎ IsStudied O.does O.looks_at (map string_bytes words.now) (S.left case.old)
-        (Rose (S.faults case.old) (S.faults case.new)) (S.faults case.new ≡ S.faults case.old)
-        opener.old opener.new (T.left file.old) (T.left file.new) (T.faults file.new) (T.calls file.new) result
-        (λ ways. Runs ways (Rose (W.faults out.old) (W.faults out.new)) (W.faults out.new ≡ W.faults out.old)
-        (W.held out.old) (W.held out.new) (W.calls out.old) (W.calls out.new) result) }
-    ensures untouched { ¬ ReadsCase (map string_bytes words.now) → ¬ ReadsStudyCase (map string_bytes words.now)
-        → case.new ≡ case.old }
-    ensures run_end { ¬ AsksStudy (map string_bytes words.now) → ReadsCase (map string_bytes words.now)
-        → result ≡ 0 → IsAtEnd (S.left case.new) }
-    ensures study_end { AsksStudy (map string_bytes words.now) → ReadsStudyCase (map string_bytes words.now)
-        → result ≡ 0 → IsAtEnd (S.left case.new) }
+    ensures run { ¬ AsksStudy (words_in words.now) → MakesRun O.Opener S.Source W.Sink (words_in words.now) case.old case.new
+        out.old out.new result opener.old opener.new (T.left file.old) (reading T.Source file.new) }
+    ensures study { AsksStudy (words_in words.now) → MakesStudy O.Opener S.Source W.Sink (words_in words.now) case.old case.new
+        out.old out.new result opener.old opener.new (T.left file.old) (reading T.Source file.new) }
+    ensures untouched { ¬ ReadsCase (words_in words.now) → ¬ ReadsStudyCase (words_in words.now) → case.new ≡ case.old }
+    ensures run_end { ¬ AsksStudy (words_in words.now) →
+        ReadsCase (words_in words.now) → result ≡ 0 → IsAtEnd (S.left case.new) }
+    ensures study_end { AsksStudy (words_in words.now) →
+        ReadsStudyCase (words_in words.now) → result ≡ 0 → IsAtEnd (S.left case.new) }
     ensures case_taken { IsTakenWithin S.left S.calls case.old case.new }
 {
     if asks_study(words) {
