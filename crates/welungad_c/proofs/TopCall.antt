@@ -23,8 +23,9 @@ answer_of : (s : Stage Refusal Answer) (rose clean : Type 0) (a : Answer) → Ma
 answer_of s rose clean a (inl given) = inl given.0
 answer_of s rose clean a (inr (r, refuses, same)) = inr (r, refuses.0, same)
 
-module _ (s : Stage Refusal Answer) {read_rose read_clean write_rose write_clean : Type 0} {old text : List ℕ} {before after status : ℕ} (empty : old ≡ [])
-    (runs : Runs (over_source s read_rose read_clean) write_rose write_clean (Some old) (Some text) before after status) where
+module _ (s : Stage Refusal Answer) {read_rose read_clean : Type 0} {old text : List ℕ} {before after faults faults_now status : ℕ} (empty : old ≡ [])
+    (runs : Runs (over_source s read_rose read_clean) (record { held = Some old; faults = faults; calls = before })
+    (record { held = Some text; faults = faults_now; calls = after }) status) where
   -- a status up to 5 comes with an answer
   answered : status ≤ 5 → IsAnswered (IsAnswerOf s) text status
   answered low = let put = runs.done low in

@@ -15,14 +15,14 @@ pub struct Reply {
 }
 
 impl Reply {
-    ghost use Rattle.std.specs.Prelude.{map, string_bytes};
+    ghost use Rattle.command_words.specs.WordBytes.{words_in};
     ghost use Rattle.welungad_c.specs.Calls.{Replies};
 
     /// Returns what the top call replies to these words, this case and this proof. `NoMemory`: out of memory for the bytes or for
     /// the text.
     pub fn to(alloc: Global, words: &[String], case: &[u8], proof: &[u8]) -> Result<Reply, NoMemory>
         ensures { IfOk result (λ reply.
-            Replies (map string_bytes words.now) case.now proof.now reply.text reply.status) }
+            Replies (words_in words.now) case.now proof.now reply.text reply.status) }
     {
         let mut case = source(alloc, case)?;
         let mut proof = source(alloc, proof)?;

@@ -1,6 +1,7 @@
 //! The words of a call from C, one after another.
-ghost use Rattle.std.specs.Prelude.{◌≡◌, IfOk, IfErr, map, string_bytes};
+ghost use Rattle.std.specs.Prelude.{◌≡◌, IfOk, IfErr, string_bytes};
 ghost use Rattle.std.specs.Str.{IsUtf8};
+ghost use Rattle.command_words.specs.WordBytes.{words_in};
 ghost use Rattle.welungad_c.specs.Words.{AreWords, LeavesNoText, LeavesNoWords};
 
 use field_core::{List, NoMemory};
@@ -48,7 +49,7 @@ fn text(alloc: Global, bytes: &[u8]) -> Result<String, NoWords>
 
 /// Reads words that are each ended by a byte 0. `Unreadable`: the bytes are not those of any words.
 pub fn read_words(alloc: Global, bytes: &[u8]) -> Result<List<String>, NoWords>
-    ensures words { IfOk result (λ words. AreWords bytes.now (map string_bytes words)) }
+    ensures words { IfOk result (λ words. AreWords bytes.now (words_in words)) }
     ensures none { IfErr result (LeavesNoWords bytes.now) }
 {
     let mut words = List::new(alloc);
