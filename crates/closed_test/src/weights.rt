@@ -15,6 +15,7 @@ ghost use Rattle.std.specs.Prelude.{
   IfOk,
   IfErr,
 };
+ghost use Rattle.field_core.specs.declared.fault.Fault.TheVariants.{Wide as TooWide};
 ghost use Rattle.field_core.specs.declared.place.WideAt.{WideAt};
 ghost use Rattle.case_model.specs.CaseView.{content};
 ghost use Rattle.entangled.specs.CaseNetView.{case_state};
@@ -73,7 +74,7 @@ fn opening_fault(case: &Case, fault: OpenFault) -> ClosedFault
     requires few { length (content case.now).names ≤ 16 }
     requires fault { IsOpenFaultOf (content case.now) fault }
     ensures fault { IsClosedFault (content case.now) result }
-    ensures wide { (w : WideAt) → fault ≡ OpenFault.Wide w → result ≡ ClosedFault.Wide (2 ^ length (content case.now).names - 1) w }
+    ensures wide { (w : WideAt) → fault ≡ TooWide w → result ≡ ClosedFault.Wide (2 ^ length (content case.now).names - 1) w }
 {
     match fault {
         OpenFault::Wide(wide) => ClosedFault::Wide((1 << case.size()) - 1, wide),
