@@ -573,6 +573,12 @@ class Program(unittest.TestCase):
             digest = hashlib.sha256(made[name].encode()).hexdigest()
             self.assertIn(f"{digest[:8]}..  {name}\n", page)
 
+    def test_words_that_are_no_text(self):
+        """Whether a word that isn't UTF-8 ends the call with 10 before anything is read or printed, wherever it stands."""
+        for words in ([b"\xff"], [b"test", b"\xff"], [b"\xc3(", b"test"], [b"check", b"a\x80.txt"]):
+            done = subprocess.run([PROGRAM, *words], stdin=subprocess.DEVNULL, capture_output=True)
+            self.assertEqual((done.returncode, done.stdout, done.stderr), (10, b"", b""), words)
+
 
 if __name__ == "__main__":
     unittest.main()

@@ -8,8 +8,8 @@
 //!
 //! The stored runs of the programs `welungad` and `welungad_study` show that `call` gives the right words and devices to
 //! `run_program`, and that its status is that of the process. `bench/study.py` shows that it opens the real files. Two statuses of
-//! its own have no clause and no test. It ends with 10 if a word can't be read, and with 8, and nothing printed, if there is no
-//! memory for the words.
+//! its own, with which nothing is printed, have no clause but a test each. They are 10 if a word can't be read
+//! (`tools/test_tools.py`), and 8 if there is no memory for the words (`bench/allocations.sh`).
 #![tactic(auto)]
 
 mod file_at;
