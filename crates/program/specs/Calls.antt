@@ -1,5 +1,5 @@
 -- Which files a call of the program opens for its words, and what is done over them.
-use Rattle.std.specs.Prelude.{◌≡◌, ◌⊎◌, ◌≤◌, ◌+◌, ℕ, List, [], Option, Some}
+use Rattle.std.specs.Prelude.{◌≡◌, ◌⊎◌, ◌≤◌, ◌+◌, ◌-◌, ◌^◌, ℕ, min, List, [], Option, Some}
 use Rattle.std.specs.Io.KnownBytes.{IsAtEnd}
 use Rattle.std.specs.List.{slice_get}
 use Rattle.graph_io.specs.Reading.{TookAtMost}
@@ -64,7 +64,7 @@ pub record IsRun {O : Type 0} (words : List (List ℕ)) (case_old case_new : Rea
 module _ {O F K : Type 0} (opener : Ghosts O F K) (words : List (List ℕ)) where
   -- A call was made over the file that the words name, and `Done` says what was done. The opener is `from` when it was requested to open the file,
   -- and `to` after the call. `before` is what the file held, and `after` is the file then. It was given back with the number of its calls, and of
-  -- those that failed. A file that was refused has no bytes, and is not given back; if it was taken from, a take failed. If no file is named, none is
+  -- those that failed. A file that was refused has no bytes, and is not given back; each take from it failed. If no file is named, none is
   -- requested.
   pub record IsOver (old new : O) (Done : O → O → Option (List ℕ) → Reading → Type 0) : Type 0 where
     pub from : O
@@ -74,7 +74,7 @@ module _ {O F K : Type 0} (opener : Ghosts O F K) (words : List (List ℕ)) wher
     pub file :
         ((path : List ℕ) × NamesPath words path × opener.does old (open_file path) from
         × (((before ≡ opener.bytes_at old path) × opener.does to (close_file path after.left after.faults after.calls) new)
-        ⊎ (opener.may_refuse old path × (before ≡ Some []) × (1 ≤ after.calls → 1 ≤ after.faults) × (new ≡ to))))
+        ⊎ (opener.may_refuse old path × (before ≡ Some []) × (after.faults ≡ min after.calls (2 ^ 64 - 1)) × (new ≡ to))))
         ⊎ (((path : List ℕ) → ¬ NamesPath words path) × (from ≡ old) × (new ≡ to) × (before ≡ Some []) × (after.faults ≡ 0))
     pub done : Done from to before after
 
