@@ -112,14 +112,18 @@ boxes_along <- function(arrow, unit, size) {
   })
 }
 
-# Whether the texts at arrows are too small, or hide each other or too much of the picture, whose circles are at these places.
+# Whether the texts at arrows are too small, or too many of them: they hide each other, their arrows, or much of the picture, whose circles
+# are at these places.
 are_crowded <- function(arrows, texts, at, unit, cex) {
   if (length(arrows) <= 6) return(FALSE)
   if (!is_readable(texts$size, cex)) return(TRUE)
-  boxes <- texts$boxes
-  area <- sum((boxes[, 3] - boxes[, 1]) * (boxes[, 4] - boxes[, 2]))
-  mean(texts$hidden) > 0.05 || area > 0.12 * prod(pmax(apply(at, 2, function(x) diff(range(x))) * unit, 0.5))
+  sides <- texts$boxes[, 3:4] - texts$boxes[, 1:2]
+  area <- prod(pmax(apply(at, 2, function(x) diff(range(x))) * unit, 0.5))
+  hides_arrow <- sides[, 1] > 0.6 * unit * vapply(arrows, function(it) length_of(it$path), 0)
+  mean(texts$hidden) > 0.03 || mean(hides_arrow) > 0.1 || sum(sides[, 1] * sides[, 2]) > 0.08 * area
 }
+
+length_of <- function(path) sqrt(sum((path[nrow(path), ] - path[1, ])^2))
 
 write_arrow_texts <- function(arrows, texts, unit) {
   boxes <- texts$boxes / unit

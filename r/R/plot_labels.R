@@ -90,7 +90,7 @@ weight_size_in <- function(nodes, unit, cex) {
   min(cex, vapply(nodes$weights, function(it) circle_size(lapply(it, short_text), length(it), nodes$radius * unit), 0))
 }
 
-weights_text <- function(weights) paste(vapply(weights, plain_text, ""), collapse = " + ")
+weights_text <- function(weights) paste(vapply(weights, plain_text, ""), collapse = "+")
 
 # The direction from the middle of the default places to each hypothesis.
 angles_of <- function(at) atan2(at[, 2], at[, 1])

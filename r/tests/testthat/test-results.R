@@ -172,6 +172,7 @@ chain_of <- function(n) {
 plan_of <- function(graph, layout = NULL) {
   grDevices::pdf(NULL)
   on.exit(grDevices::dev.off())
+  graphics::par(mar = rep(0.5, 4))
   graphics::plot.new()
   nodes <- welungad:::nodes_of(graph, graph, layout, NULL)
   picture <- welungad:::picture_of(graph, graph, nodes, 1)
