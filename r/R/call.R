@@ -54,14 +54,24 @@ run_program <- function(program, words, case, proof) {
   place <- tempfile("welungad-")
   files <- paste0(place, c("-case", "-proof", "-text"))
   on.exit(unlink(files))
-  writeBin(case, files[1])
+  write_whole(case, files[1])
   at <- file_word(words)
   if (!is.na(at)) {
-    writeBin(proof, files[2])
+    write_whole(proof, files[2])
     words[at] <- files[2]
   }
   status <- start_program(program, words, files[1], files[3])
   list(status = status, text = text_of_file(files[3]))
+}
+
+# Writes bytes to a file. Stops if the file does not get all of them: on a full disk R only warns, and leaves a part.
+write_whole <- function(bytes, path) {
+  said <- function(condition) gsub(" +", " ", conditionMessage(condition))
+  cause <- tryCatch({
+    writeBin(bytes, path)
+    if (file.size(path) != length(bytes)) "it is not whole"
+  }, warning = said, error = said)
+  if (!is.null(cause)) stop(path, " can't be written: ", cause, call. = FALSE)
 }
 
 # The place of the word that names the file of the proof: after check the first word that is neither an option nor its value.

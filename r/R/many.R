@@ -30,6 +30,9 @@ rows_of_p <- function(P, graph) {
   n <- length(graph$names)
   if (ncol(P) != n) stop_at("P", whole_text(ncol(P)), " columns given for ", whole_text(n), " hypotheses")
   given <- colnames(P)
+  if (is.null(given) && any(rownames(P) %in% unlist(hypothesis_keys(graph)))) {
+    stop_at("P", "its rows have the names of hypotheses, and its columns have none: a row is a trial")
+  }
   columns <- if (is.null(given)) seq_len(n) else places_among(given, hypothesis_keys(graph), "P: columns")
   check_p(P)
   if (is.double(P)) report_many_rounded(P)

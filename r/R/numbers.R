@@ -138,7 +138,7 @@ written_fractions <- function(texts) {
   most <- ifelse(digits == 15, 10000, ifelse(digits == 7, 1000, 0))
   near <- small_fractions(x, 10^(floor(log10(abs(x))) + 1 - digits))
   at <- which(near$d <= most & near$n != 0)
-  written <- as.numeric(sprintf("%.*g", digits[at], near$n[at] / near$d[at])) == x[at]
+  written <- as.numeric(decimal_text(near$n[at] / near$d[at], digits[at])) == x[at]
   meant <- quotient_of(near$n[at], near$d[at])
   found <- rep(NA_character_, length(texts))
   found[at] <- ifelse(written & as.logical(fraction(meant) != fraction(texts[at])), meant, NA)

@@ -47,13 +47,24 @@ levels_by_hypothesis <- function(levels, graph) {
     stop_at("levels", if (any(named)) "both rows and columns" else "neither rows nor columns", " of the table name the hypotheses")
   }
   side <- which(named)
+  check_stages(read$dimnames[[3L - side]], "levels")
   parts <- lapply(seq_len(read$dim[side]), function(k) if (side == 1L) unname(read[k, ]) else unname(read[, k]))
   stats::setNames(parts, read$dimnames[[side]])
 }
 
+# Stops if the names of stages have falling numbers: levels are taken in the order in which they are given.
+check_stages <- function(names, what) {
+  numbers <- sub("^[^0-9]*([0-9]{1,9})[^0-9]*\\z", "\\1", names, perl = TRUE)
+  if (length(numbers) && all(grepl("^[0-9]+\\z", numbers, perl = TRUE)) && is.unsorted(as.numeric(numbers))) {
+    stop_at(what, "the stages are ", listed(quoted(names)), ", and levels are given from the first stage to the last")
+  }
+}
+
 # A vector: the levels that the hypothesis has at its stages while its weight is `from`; at other weights in proportion.
 spend_list <- function(name, what, levels, alpha, from) {
-  levels <- unname(exact_vector(levels, what))
+  levels <- exact_vector(levels, what)
+  check_stages(names(levels), what)
+  levels <- unname(levels)
   values <- fraction(number_texts(levels, what))
   whole <- fraction(alpha) * fraction(from)
   if (anyNA(values) || length(values) == 0) stop_at(what, "a number is needed for each stage")
@@ -73,6 +84,7 @@ spend_table <- function(name, what, levels, alpha) {
   read <- if (is.data.frame(levels)) exact_frame(levels, what) else exact_of(levels, what)
   from <- read$dimnames[[1]]
   if (is.null(from)) stop_at(what, "a matrix of levels has row names: the weights from which its rows count")
+  check_stages(read$dimnames[[2]], what)
   from <- number_texts(exact_of(from, what), what)
   wrong <- which(is.na(fraction(from)))
   if (length(wrong)) stop_at(what, "the row name ", quoted(from[wrong[1]]), " is not a weight")
@@ -88,6 +100,8 @@ read_looks <- function(graph, looks) {
   if (!is.data.frame(looks) || !all(c("hypothesis", "stage", "p") %in% names(looks))) {
     stop_at("looks", "a data frame with the columns hypothesis, stage and p is needed")
   }
+  twice <- intersect(c("hypothesis", "stage", "p"), names(looks)[duplicated(names(looks))])
+  if (length(twice)) stop_at("looks", "the column ", twice[1], " occurs twice")
   if (is_number(looks$hypothesis)) stop_at("looks", "the column hypothesis has numbers, and not the names of hypotheses")
   at <- positions_of(graph, as.character(looks$hypothesis), "looks")
   stage <- whole_numbers(looks$stage, "looks: stage")

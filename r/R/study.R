@@ -29,6 +29,7 @@ checked_store <- function(store) {
   }
   store <- path.expand(store)
   if (!dir.exists(dirname(store))) stop_at("store", "there is no folder ", quoted(dirname(store)))
+  if (dir.exists(store)) stop_at("store", quoted(store), " is a folder")
   store
 }
 
@@ -44,9 +45,10 @@ hold_case <- function(lines, store) {
     }
     part <- tempfile("welungad-", dirname(store))
     on.exit(unlink(part))
-    writeBin(charToRaw(paste0(lines, "\n", collapse = "")), part)
+    write_whole(charToRaw(paste0(lines, "\n", collapse = "")), part)
+    # not every file system has links
     linked <- suppressWarnings(file.link(part, place))
-    if (!linked && !file.exists(place)) file.copy(part, place, overwrite = FALSE)
+    if (!linked && !file.exists(place)) file.rename(part, place)
   }
   known <- readLines(place, warn = FALSE, encoding = "UTF-8")
   if (!identical(known, lines)) {
@@ -74,7 +76,7 @@ program_answer <- function(words, case) {
 run_study <- function(text, graph, store, commands) {
   file <- tempfile("welungad-commands-")
   on.exit(unlink(file))
-  writeLines(commands, file)
+  write_whole(charToRaw(paste0(commands, "\n", collapse = "")), file)
   program_answer(c("study", file, paste0("--store=", store)), handed(text, graph))
 }
 

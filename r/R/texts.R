@@ -1,10 +1,17 @@
-# Texts of numbers. Each number that the package writes is written here, so that R's options (scipen, OutDec, digits) change none.
+# Texts of numbers. Each number that the package writes is written here, so that R's options (scipen, OutDec, digits) and a locale with
+# a decimal comma change none.
 
 # Whole numbers.
 whole_text <- function(x) sprintf("%.0f", x)
 
 # Doubles with at most so many digits, for display.
-decimal_text <- function(x, digits) sprintf("%.*g", as.integer(digits), x)
+decimal_text <- function(x, digits) with_point(sprintf("%.*g", as.integer(digits), x))
+
+# Texts with a point in place of what the user's locale has, as a comma.
+with_point <- function(texts) {
+  own <- Sys.localeconv()[["decimal_point"]]
+  if (own == ".") texts else sub(own, ".", texts, fixed = TRUE)
+}
 
 # Fractions of doubles; a whole one has no denominator.
 quotient_of <- function(n, d) {

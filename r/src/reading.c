@@ -3,6 +3,7 @@
 #include <R.h>
 #include <Rinternals.h>
 #include <float.h>
+#include <locale.h>
 #include <math.h>
 #include <stdint.h>
 #include <stdio.h>
@@ -123,6 +124,14 @@ static fraction decimal(double x) {
   return (fraction){shift > 126 ? 1 : rounded_up(ends.middle * power(5, MOST_PLACES), shift), power(10, MOST_PLACES)};
 }
 
+/* Whether a multiple of 10^-30 rounds to x, which is above 0 and at most 1. */
+static int has_decimal(double x) {
+  interval ends = interval_of(x);
+  int shift = ends.shift - MOST_PLACES;
+  wide scale = power(5, MOST_PLACES);
+  return shift <= 126 && rounded_up(ends.low * scale, shift) <= (ends.high * scale) >> shift;
+}
+
 /* What a double from 0 to 1 is read as. */
 static fraction own_reading(double x) {
   double n, d;
@@ -173,11 +182,21 @@ static void quotient_text(double n, double d, char *text) {
   if (d != 1) snprintf(text + count, (size_t)(ROOM - count), "/%.0f", d);
 }
 
+/* Writes a point in place of what the user's locale has, as a comma. */
+static void with_point(char *text) {
+  const char *own = localeconv()->decimal_point;
+  char *at = strcmp(own, ".") == 0 ? NULL : strstr(text, own);
+  if (at == NULL) return;
+  memmove(at + 1, at + strlen(own), strlen(at + strlen(own)) + 1);
+  *at = '.';
+}
+
 /* Writes the shortest decimal that is read back as a double that is not 0. Below the normal doubles few digits can be enough. */
 static void shortest(double x, char *text) {
   int digits = fabs(x) < DBL_MIN ? 1 : 15;
   do snprintf(text, ROOM, "%.*g", digits, x);
   while (strtod(text, NULL) != x && ++digits <= 17);
+  with_point(text);
 }
 
 /* Writes the text of what a double from 0 to 1 is read as, and returns the rule. */
@@ -189,7 +208,7 @@ static enum rule reading_text(double x, fraction found, char *text) {
   }
   if (power(10, MOST_PLACES) % found.d != 0) error("a double has no reading");
   decimal_text(found, text);
-  return strtod(text, NULL) == x ? SHORTEST_DECIMAL : ROUNDED_UP;
+  return has_decimal(x) ? SHORTEST_DECIMAL : ROUNDED_UP;
 }
 
 /* The same of a double above 1, which no case has: its refusal names it. */
@@ -218,6 +237,7 @@ static void put(SEXP result, R_xlen_t i, double x, fraction found) {
     shortest(x, given);
   } else {
     snprintf(given, ROOM, "%.15g", x);
+    with_point(given);
   }
   SET_STRING_ELT(VECTOR_ELT(result, 0), i, rule == SHORTEST_DECIMAL ? mkChar(read) : mkChar(given));
   SET_STRING_ELT(VECTOR_ELT(result, 1), i, mkChar(read));

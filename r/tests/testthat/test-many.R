@@ -26,6 +26,8 @@ test_that("rows that have no decision are named", {
     expect_error(graph_test_many(pair(), rbind(0:1, c(-1e-300, 1))), "P: row 2, column 1 is -1e-300, which is not a p-value", fixed = TRUE)
     expect_error(graph_test_many(pair(), c(0.1, 0.2)), "P: a matrix is needed")
     expect_error(graph_test_many(pair(), matrix(0.1, 2, 3)), "P: 3 columns given for 2 hypotheses")
+    turned <- matrix(0.1, 2, 2, dimnames = list(c("H1", "H2"), NULL))
+    expect_error(graph_test_many(pair(), turned), "P: its rows have the names of hypotheses, and its columns have none: a row is a trial")
     expect_error(graph_test_many(pair(), matrix("0.1 0.2", 1, 2)), "P: row 1, column 1 is 0.1 0.2")
     expect_message(graph_test_many(pair(), matrix(c(1e-300, 0.5), 1)), "P: 1 p-value was rounded up to a multiple of 10^-30: row 1", fixed = TRUE)
     small <- cbind(rep(c(0.5, 1e-31), 8), 1e-40)

@@ -43,6 +43,8 @@ test_that("p-values with names are put in order, whatever their class", {
     }
     expect_equal(graph_canon(pair(), as_exact(p))[3], "p 9/10 1/1000")
     expect_error(graph_test(pair(), c(H1 = 0.1, H1 = 0.2)), "p: the name \"H1\" occurs twice", fixed = TRUE)
+    expect_error(graph_test(pair(), c("H1 low" = 0.1, "H2 low" = 0.2)), "p: no hypothesis has the name \"H1 low\"", fixed = TRUE)
+    expect_error(graph_test(pair(), c(H = 0.1, H2 = 0.2)), "p: no hypothesis has the name \"H\"", fixed = TRUE)
     expect_error(graph_test(pair(), c(H1 = 0.1, 0.2)), "p: the second has no name, and others have one", fixed = TRUE)
     expect_error(graph_test(pair(), c(H1 = 0.1, H2 = 0.2, H3 = 0.3)), "p: no hypothesis has the name \"H3\"", fixed = TRUE)
     expect_error(graph_test(pair(), c(H1 = 0.1)), "p: nothing is given for \"H2\"", fixed = TRUE)
@@ -94,6 +96,10 @@ test_that("names decide the direction of a table of levels", {
     expect_error(graph_stages(pair(), square), "levels: both rows and columns of the table name the hypotheses")
     expect_error(graph_stages(pair(), list(H1 = 0.001, H3 = 0.002)), "levels: no hypothesis has the name \"H3\"", fixed = TRUE)
     expect_error(graph_stages(pair(), list(H1 = 0.001, H2 = c(0.001, 0.002))), "levels: \"H2\" has 2 stages, and \"H1\" 1", fixed = TRUE)
+    # nothing is recycled
+    expect_error(graph_stages(diabetes(), list(0.001, 0.002)), "levels: 2 given for 4 hypotheses", fixed = TRUE)
+    expect_error(graph_stages(diabetes(), list(0.001)), "levels: 1 given for 4 hypotheses", fixed = TRUE)
+    expect_error(graph_stages(diabetes(), rep(list(0.001), 4), at = c(1, 1 / 2)), "at: 2 given for 4 hypotheses", fixed = TRUE)
   })
 })
 
@@ -108,6 +114,8 @@ test_that("the stages of looks are whole numbers", {
     expect_error(graph_stages(pair(), levels, data.frame(hypothesis = 1:2, stage = 1, p = 0.1)), "looks: the column hypothesis has numbers")
     expect_error(graph_stages(pair(), levels, data.frame(hypothesis = "H3", stage = 1, p = 0.1)), "looks: no hypothesis has the name \"H3\"", fixed = TRUE)
     expect_equal(refusal_of(graph_stages(pair(), levels, looks(c(4, 4))))$line, "malformed: case: arrival 1 stage")
+    twice <- cbind(looks(1), data.frame(p = 0.001))
+    expect_error(graph_stages(pair(), levels, twice), "looks: the column p occurs twice", fixed = TRUE)
   })
 })
 

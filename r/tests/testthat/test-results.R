@@ -39,6 +39,26 @@ test_that("the priorities order the rejections", {
   })
 })
 
+test_that("each call decides at the level that it is given", {
+  each_way(function(way) {
+    graph <- pair()
+    p <- c(0.02, 0.04)
+    expect_equal(unname(graph_test(graph, p)$rejected), c(FALSE, FALSE))
+    expect_equal(unname(graph_test(graph, p, alpha = 0.05)$rejected), c(TRUE, TRUE))
+    expect_equal(unname(graph_test_closure(graph, p, alpha = 0.05)$rejected), c(TRUE, TRUE))
+    expect_equal(bound_of(graph_bounds(graph, p, alpha = 0.05), 1:2), 2)
+    expect_equal(bound_of(graph_bounds(graph, p), 1:2), 0)
+    expect_equal(unname(graph_simes(graph, c(0.04, 0.05), alpha = 0.05)$rejected), c(TRUE, TRUE))
+    expect_equal(unname(graph_test_many(graph, rbind(p, p), alpha = 0.05)), matrix(TRUE, 2, 2))
+    expect_equal(graph_canon(graph, p, alpha = 0.05)[1], "alpha 1/20")
+    proof <- graph_evidence(graph, p, alpha = 0.05)
+    expect_equal(proof$evidence[c(1, 2, 3)], c("evidence 2", "step H1", "step H2"))
+    expect_true(graph_check(graph, p, alpha = 0.05, evidence = proof)$yes)
+    expect_false(graph_check(graph, p, evidence = proof)$yes)
+    expect_equal(grep("^step", graph_evidence(graph, c(0.001, 0.002), priority = "last")$evidence, value = TRUE), c("step H2", "step H1"))
+  })
+})
+
 test_that("closed tests show each intersection", {
   each_way(function(way) {
     x <- graph_test_closure(holm(3), c(0.01, 0.005, 0.03))
@@ -225,6 +245,26 @@ test_that("numbers in pictures are short", {
   expect_equal(welungad:::plain_text("12345678/98765432"), "about 0.125")
   expect_equal(welungad:::columns_for(5, c(7, 7)), 3)
   expect_equal(welungad:::columns_for(4, c(7, 2)), 4)
+})
+
+test_that("each arrow goes from its hypothesis to the other, and each weight is at its own", {
+  each_way(function(way) {
+    edges <- rbind(c("0", "1/4", "0"), "0", c("3/4", "0", "0"))
+    graph <- graph_create(c(A = "1/2", B = "1/3", C = "1/7"), edges)
+    at <- welungad:::default_layout(3)
+    nearest <- function(point) graph$labels[which.min((at[, 1] - point[1])^2 + (at[, 2] - point[2])^2)]
+    drawn <- function(graph, all) vapply(welungad:::arrows_of(graph, all, at, 0.1), function(it) {
+      paste(nearest(it$path[1, ]), nearest(it$path[nrow(it$path), ]), it$text)
+    }, "")
+    expect_setequal(drawn(graph, graph), c("A B 1/4", "C A 3/4"))
+    rest <- graph_update(graph, "A")$updated_graph
+    expect_equal(drawn(rest, graph), "C B 3/16")
+    nodes <- welungad:::nodes_of(rest, graph, at, NULL)
+    expect_equal(nodes$weights, list(list(), list("11/24"), list("1/7")))
+    expect_equal(nodes$here, c(FALSE, TRUE, TRUE))
+    x <- graph_test(graph, c(A = 0.9, B = 0.001, C = 0.9))
+    expect_equal(welungad:::nodes_of(graph, graph, at, x$rejected)$fill, replace(rep(welungad:::fill_plain, 3), 2, welungad:::fill_rejected))
+  })
 })
 
 test_that("parts of results are taken, and summaries are made", {

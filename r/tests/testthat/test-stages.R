@@ -43,3 +43,23 @@ test_that("levels that sum to more are refused with the amount", {
     expect_equal(table$amount, refusal$amount)
   })
 })
+
+test_that("levels are given in the order of the stages", {
+  each_way(function(way) {
+    graph <- pair()
+    plain <- graph_stages(graph, list(H1 = c(0.005, 0.02), H2 = c(0.005, 0.02)))$case
+    for (names in list(1:2, c("stage 1", "stage 2"), c("interim", "final"), c("week 12", "week 104"))) {
+      own <- stats::setNames(c(0.005, 0.02), names)
+      expect_equal(graph_stages(graph, list(H1 = own, H2 = own))$case, plain)
+      expect_equal(graph_stages(graph, rbind(H1 = own, H2 = own))$case, plain)
+    }
+    fault <- "the stages are \"(stage )?2\", \"(stage )?1\", and levels are given from the first stage to the last"
+    for (names in list(2:1, c("stage 2", "stage 1"))) {
+      own <- stats::setNames(c(0.02, 0.005), names)
+      expect_error(graph_stages(graph, list(H1 = own, H2 = c(0.005, 0.02))), paste0("levels: \"H1\": ", fault))
+      expect_error(graph_stages(graph, rbind(H1 = own, H2 = own)), paste0("levels: ", fault))
+      expect_error(graph_stages(graph, cbind(H1 = own, H2 = own)), paste0("levels: ", fault))
+      expect_error(graph_stages(graph, list(H1 = own, H2 = rbind("1" = own))), fault)
+    }
+  })
+})

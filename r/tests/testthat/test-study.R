@@ -47,6 +47,7 @@ test_that("a study needs a file, and a staged case without looks", {
   with_folder(function(store) {
     for (wrong in list(":memory:", "file:x", "", NA, 1, c("a", "b"))) expect_error(graph_study(staged(), wrong), "store: the name of a file is needed")
     expect_error(graph_study(staged(), file.path(store, "x.db")), "store: there is no folder")
+    expect_error(graph_study(staged(), dirname(store)), "store: .* is a folder")
     expect_error(graph_study(graph_canon(pair()), store), "case: a study has a staged case")
     late <- graph_stages(pair(), list(H1 = 0.01, H2 = 0.01), look("H1", 1, 0.5))
     expect_error(graph_study(late, store), "case: a study begins without looks")

@@ -52,6 +52,26 @@ test_that("no option of R changes what is handed in or printed", {
   })
 })
 
+test_that("a locale with a decimal comma changes nothing", {
+  x <- c(1 / 3, 0.1 + 0.2, 0.025, 1.5e-30, 2^-24, 3.0000000000000004)
+  plain <- list(numbers = unclass(as_exact(x)), shown = capture.output(print(as_exact(x))))
+  old <- Sys.getlocale("LC_NUMERIC")
+  on.exit(suppressWarnings(Sys.setlocale("LC_NUMERIC", old)))
+  set <- vapply(c("de_DE.UTF-8", "de_DE.utf8", "fr_FR.UTF-8", "tr_TR.UTF-8", "nl_NL.UTF-8"), function(name) {
+    nzchar(suppressWarnings(Sys.setlocale("LC_NUMERIC", name)))
+  }, NA)
+  skip_if_not(any(set), "no locale with a decimal comma is there")
+  expect_equal(Sys.localeconv()[["decimal_point"]], ",")
+  expect_identical(unclass(as_exact(x)), plain$numbers)
+  expect_identical(capture.output(print(as_exact(x))), plain$shown)
+  expect_warning(as_exact("0.3333333"), "is what R writes for 1/3")
+  expect_equal(as_exact(c(0.1 + 0.2, 0.7), total = 1)$read, c("3/10", "7/10"))
+  each_way(function(way) {
+    expect_output(print(graph_test(pair(), c(0.0125, 0.5))), "H1 +0.0125 +0.5 +0.0125 +yes")
+    expect_equal(graph_canon(pair(), c(0.1 + 0.2, 0.025), 0.05)[c(1, 3)], c("alpha 1/20", "p 7500000000000001/25000000000000000 1/40"))
+  })
+})
+
 test_that("sums of doubles say what was read, and how to read the fractions", {
   each_way(function(way) {
     refusal <- refusal_of(graph_create(seq(0.1, 0.4, 0.1), matrix(0, 4, 4)))
