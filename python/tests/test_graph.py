@@ -1,7 +1,9 @@
 """Tests of graphs: what they take, what they return with the user's labels, and how they refuse. Values by hand."""
 import functools
+import math
 import os
 import pickle
+import re
 import tempfile
 import unittest
 import warnings
@@ -254,6 +256,15 @@ class Answers(unittest.TestCase):
         self.assertEqual([it.weights for it in steps], [{"a b": HALF, "B": HALF, "C": 0}, {"B": Fraction(3, 4), "C": Fraction(1, 4)}, {"C": 1}])
         self.assertEqual(steps[1].components[0].edges, {("B", "C"): 1})
 
+    def test_steps_at_a_level_and_by_a_priority(self):
+        self.assertEqual([it.rejected for it in pair().steps([0.02, 0.04], alpha=0.05)], [(), ("A",), ("A", "B")])
+        self.assertEqual([it.rejected for it in pair().steps([0.02, 0.04])], [()])
+        self.assertEqual(holm().steps([0.001, 0.002, 0.0005], priority="last")[-1].rejected, ("H3", "H2", "H1"))
+
+    def test_evidence_by_a_priority(self):
+        order = [[it.name for it in holm().evidence([0.001, 0.002, 0.0005], priority=it).steps] for it in ("first", "last", "ratio")]
+        self.assertEqual(order, [["H1", "H2", "H3"], ["H3", "H2", "H1"], ["H3", "H1", "H2"]])
+
     def test_steps_with_epsilon(self):
         graph = welungad.Graph([HALF, HALF, 0], [[0, "1-\\epsilon", "\\epsilon"], ["1-\\epsilon", 0, "\\epsilon"], [HALF, HALF, 0]])
         steps = graph.steps([0.001, 0.001, 0.001])
@@ -274,6 +285,23 @@ class Answers(unittest.TestCase):
             picture.save(os.path.join(room, "graph.svg"))
             with open(os.path.join(room, "graph.svg"), encoding="utf-8") as file:
                 self.assertEqual(file.read(), picture.svg)
+
+    def test_draw_each_at_its_place(self):
+        """Whether each number is in the circle of its hypothesis, and each arrow goes from its hypothesis to the other."""
+        graph = welungad.Graph({"A": "1/2", "B": "1/3", "C": "1/7"}, {("A", "B"): "1/4", ("C", "A"): "3/4"})
+        drawn = xml.etree.ElementTree.fromstring(graph.draw(graph.test({"A": 0.9, "B": 0.002, "C": 0.001})).svg)
+        found = [(it.get("x"), it.get("y"), it.text) for it in drawn.iter("{http://www.w3.org/2000/svg}text")]
+        circles = {it[0].text: it for it in drawn.iter("{http://www.w3.org/2000/svg}circle") if len(it)}
+        self.assertEqual({label: it.get("fill") for label, it in circles.items()}, {"A": "#fff", "B": "#cfe3cf", "C": "#cfe3cf"})
+
+        def nearest(x, y):
+            return min(circles, key=lambda label: math.hypot(float(circles[label].get("cx")) - float(x), float(circles[label].get("cy")) - float(y)))
+
+        for text, label in [("1/2", "A"), ("1/3", "B"), ("1/7", "C"), ("p 9/10", "A"), ("p 1/500", "B"), ("p 1/1000", "C"), ("1", "B"), ("2", "C")]:
+            self.assertEqual([nearest(x, y) for x, y, it in found if it == text], [label], text)
+        paths = {it[0].text: re.findall("[-0-9.]+,[-0-9.]+", it.get("d")) for it in drawn.iter("{http://www.w3.org/2000/svg}path") if len(it)}
+        ends = {title: (nearest(*points[0].split(",")), nearest(*points[-1].split(","))) for title, points in paths.items()}
+        self.assertEqual(ends, {"A → B: 1/4": ("A", "B"), "C → A: 3/4": ("C", "A")})
 
     def test_draw_each_size(self):
         for size in [1, 2, 3, 8, 16, 40]:
