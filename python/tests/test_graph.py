@@ -171,6 +171,10 @@ class Answers(unittest.TestCase):
         self.assertEqual((0, decision.report.encode()), welungad.run(["test"], decision.case))
         self.assertEqual(pickle.loads(pickle.dumps(decision)), decision)
 
+    def test_an_adjusted_p_value_that_is_not_reached(self):
+        adjusted = welungad.Graph([1, 0], {}).test([0.01, 0.01]).adjusted
+        self.assertEqual([(it.p, it.reached) for it in adjusted.values()], [(Fraction(1, 100), True), (1, False)])
+
     def test_labels_do_not_mix(self):
         for p, rejected in [([0.001, 0.9], ("a b",)), ([0.9, 0.001], ("a_b",)), ({"a_b": 0.001, "a b": 0.9}, ("a_b",))]:
             self.assertEqual(welungad.Graph([0.5, 0.5], {}, names=["a b", "a_b"]).test(p).rejected, rejected)

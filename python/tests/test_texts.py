@@ -253,6 +253,15 @@ class Refusals(unittest.TestCase):
                 welungad.test(example("holm.txt"), **options)
             self.assertEqual(caught.exception.status, welungad.USAGE)
 
+    def test_a_level_that_the_text_has_itself(self):
+        case = lines_of(["alpha 0.05", "hypotheses A", "p 0.01", "weights 1"])
+        calls = [welungad.test, welungad.weights, welungad.bounds, welungad.simes, welungad.evidence, welungad.canon, lambda *given, **how: welungad.check(*given, "x", **how)]
+        for call in calls:
+            for alpha in (0, "0.05"):
+                with self.subTest(call=call, alpha=alpha), self.assertRaises(welungad.Refused) as caught:
+                    call(case, alpha=alpha)
+                self.assertTrue(caught.exception.line.startswith("usage: word "))
+
     def test_a_proof_that_is_malformed(self):
         with self.assertRaises(welungad.Refused) as caught:
             welungad.check(example("holm.txt"), "evidence 3\n")
