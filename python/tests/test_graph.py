@@ -117,6 +117,7 @@ class Given(unittest.TestCase):
             (lambda: graph.draw(holm().test([1, 1, 1])), "^the decision is of other hypotheses"),
             (lambda: welungad.Graph.entangled([graph, holm()], [0.5, 0.5]), "^graph 2 has other hypotheses"),
             (lambda: welungad.Graph.entangled([graph, graph], [0.5]), "^shares has 1 values"),
+            (lambda: welungad.Graph.entangled([graph, welungad.Graph({"B": 1, "A": 0}, {})], [0.5, 0.5]), "^graph 2 has .*, or another order of them$"),
         ]:
             with self.subTest(message), self.assertRaisesRegex(ValueError, message):
                 call()

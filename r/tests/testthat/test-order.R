@@ -80,6 +80,8 @@ test_that("shares are put in the order of the graphs", {
     expect_equal(vapply(both$components, `[[`, "", "share"), c("7/10", "1/5"))
     expect_error(graph_entangle(one, two, shares = c(second = 0.2, first = 0.7)), "shares: the shares have names, and the graphs have none")
     expect_error(graph_entangle(one, two, shares = 1), "shares: one share is needed for each graph")
+    turned <- graph_create(c(B = 1, A = 0), matrix(0, 2, 2))
+    expect_error(graph_entangle(one, turned, shares = c(0.5, 0.5)), "...: the graphs have the same hypotheses in the same order", fixed = TRUE)
   })
 })
 
