@@ -13,6 +13,7 @@ from fractions import Fraction
 
 import places
 import welungad
+from welungad import _updates
 
 try:
     import numpy
@@ -260,6 +261,15 @@ class Answers(unittest.TestCase):
         self.assertEqual([it.rejected for it in steps], [(), ("a b",), ("a b", "B")])
         self.assertEqual([it.weights for it in steps], [{"a b": HALF, "B": HALF, "C": 0}, {"B": Fraction(3, 4), "C": Fraction(1, 4)}, {"C": 1}])
         self.assertEqual(steps[1].components[0].edges, {("B", "C"): 1})
+
+    def test_steps_whose_weights_are_not_the_proved_ones(self):
+        graph = pair()
+        decision = graph.test([0.01, 0.9])
+        self.assertEqual(len(_updates.steps_of(graph.components, graph.names, decision, lambda removed: {"B": Fraction(1)})), 2)
+        with self.assertRaisesRegex(welungad.BadAnswer, "after the removal of A are not those of the proved call"):
+            _updates.steps_of(graph.components, graph.names, decision, lambda removed: {"B": HALF})
+        with self.assertRaisesRegex(welungad.BadAnswer, "^the weight of 'A' at its rejection is computed as 1/3"):
+            _updates.steps_of(pair(THIRD).components, graph.names, decision, lambda removed: {"B": Fraction(1)})
 
     def test_steps_at_a_level_and_by_a_priority(self):
         self.assertEqual([it.rejected for it in pair().steps([0.02, 0.04], alpha=0.05)], [(), ("A",), ("A", "B")])

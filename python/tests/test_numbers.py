@@ -245,6 +245,23 @@ class Kinds(unittest.TestCase):
             with self.subTest(given), self.assertRaises(TypeError):
                 _numbers.whole(given, "it")
 
+    def test_numbers_that_print_as_others(self):
+        class Whole(int):
+            __str__ = __repr__ = lambda self: "7"
+
+        class Double(float):
+            __str__ = __repr__ = lambda self: "0.75"
+
+        class Text(str):
+            __str__ = __repr__ = lambda self: "0.75"
+
+        class Exact(Fraction):
+            __str__ = __repr__ = lambda self: "3/4"
+
+        for given, text in [(Whole(1), "1"), (Double(0.5), "1/2"), (Text("0.5"), "0.5"), (Exact(1, 2), "1/2")]:
+            self.assertEqual(f"{_numbers.numeral(given, 'it')}", text)
+        self.assertEqual(f"{_numbers.whole(Whole(2), 'it')}", "2")
+
     @unittest.skipUnless(numpy, "numpy is missing")
     def test_numpy(self):
         self.assertEqual(welungad.as_exact(numpy.float64(1) / 3), Fraction(1, 3))

@@ -255,4 +255,4 @@ def whole(value: Any, place: str) -> int:
         value = plain(value, place)
     if isinstance(value, bool) or not isinstance(value, int):
         raise TypeError(f"{place} is a whole number, and not {value!r}")
-    return value
+    return int(value)

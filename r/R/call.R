@@ -29,13 +29,14 @@ program_path <- function() {
 }
 
 welungad_run <- function(words, case = "", proof = "") {
-  words <- enc2utf8(as.character(words))
+  words <- as.character(words)
   if (anyNA(words)) stop_at("words", "a word is NA")
   case <- bytes_of(case, "case")
   proof <- bytes_of(proof, "proof")
   switch(welungad_way(),
-    library = .Call(C_welungad_call, words, case, proof),
-    program = run_program(program_path(), words, case, proof),
+    library = .Call(C_welungad_call, enc2utf8(words), case, proof),
+    # a path has the bytes that R's own functions give it, also in a locale that isn't UTF-8
+    program = run_program(program_path(), enc2native(words), case, proof),
     stop("neither the C library nor the program welungad is found: ", how_to_find_program, call. = FALSE)
   )
 }

@@ -4,7 +4,7 @@
 graph_report <- function(x, file, p = NULL, alpha = 0.025, title = NULL) {
   x <- decided(x, p, alpha, missing(alpha))
   file <- one_text(file, "file")
-  title <- if (is.null(title)) format(x) else one_text(title, "title")
+  title <- enc2utf8(if (is.null(title)) format(x) else one_text(title, "title"))
   room <- tempfile("welungad-")
   dir.create(room)
   on.exit(unlink(room, recursive = TRUE))
@@ -28,7 +28,7 @@ decided <- function(x, p, alpha, is_default) {
 
 one_text <- function(x, what) {
   if (!is.character(x) || length(x) != 1 || is.na(x) || !nzchar(x)) stop_at(what, "one text is needed")
-  enc2utf8(x)
+  x
 }
 
 # Writes what the script reads into a folder: the case, the labels, each ended by a byte 0, and the report. Returns the words that

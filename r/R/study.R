@@ -50,7 +50,9 @@ hold_case <- function(lines, store) {
     linked <- suppressWarnings(file.link(part, place))
     if (!linked && !file.exists(place)) file.rename(part, place)
   }
-  known <- readLines(place, warn = FALSE, encoding = "UTF-8")
+  known <- tryCatch(suppressWarnings(readLines(place, warn = FALSE, encoding = "UTF-8")), error = function(e) {
+    stop_at("store", place, " can't be read")
+  })
   if (!identical(known, lines)) {
     own <- words_after(known, "hypotheses")
     stop_at("store", basename(store), " was made for a case with ",

@@ -116,6 +116,8 @@ test_that("the stages of looks are whole numbers", {
     expect_error(graph_stages(pair(), levels, data.frame(hypothesis = 1:2, stage = 1, p = 0.1)), "looks: the column hypothesis has numbers")
     expect_error(graph_stages(pair(), levels, data.frame(hypothesis = "H3", stage = 1, p = 0.1)), "looks: no hypothesis has the name \"H3\"", fixed = TRUE)
     expect_equal(refusal_of(graph_stages(pair(), levels, looks(c(4, 4))))$line, "malformed: case: arrival 1 stage")
+    codes <- data.frame(hypothesis = factor(c("H2", "H1"), levels = c("H2", "H1")), stage = 1, p = c(0.0001, 0.9))
+    expect_equal(graph_stages(pair(), levels, codes)$looks$hypothesis, c("H2", "H1"))
     twice <- cbind(looks(1), data.frame(p = 0.001))
     expect_error(graph_stages(pair(), levels, twice), "looks: the column p occurs twice", fixed = TRUE)
   })

@@ -80,6 +80,20 @@ test_that("verdicts that are not the proved ones stop", {
   expect_error(welungad:::hold_verdicts(sets, c(FALSE, TRUE, FALSE), c(FALSE, TRUE, FALSE), 2), "not those of the proved call")
 })
 
+test_that("a closed test with other verdicts than the proved ones stops", {
+  each_way(function(way) {
+    case <- graph_canon(pair(), c(0.001, 0.9))
+    place <- tempfile("stand-in-")
+    for (command in c("bounds", "weights", "canon")) cat(welungad_run(command, case)$text, file = paste0(place, ".", command))
+    writeLines(c("#!/bin/sh", "cat \"$0.$1\""), place)
+    Sys.chmod(place, "755")
+    expect_equal(with_program(place, graph_test_closure(pair(), c(0.001, 0.9))$rejected), c(H1 = TRUE, H2 = FALSE))
+    bounds <- paste0(place, ".bounds")
+    writeLines(sub("^bound 1 of H1$", "bound 0 of H1", readLines(bounds)), bounds)
+    expect_error(with_program(place, graph_test_closure(pair(), c(0.001, 0.9))), "the verdicts here are not those of the proved call")
+  })
+})
+
 test_that("bounds of true discoveries", {
   each_way(function(way) {
     x <- graph_bounds(holm(3), c(0.01, 0.005, 0.03))

@@ -56,3 +56,22 @@ test_that("a study needs a file, and a staged case without looks", {
     expect_error(plot(graph_study(staged(), store)), "a study has no picture")
   })
 })
+
+test_that("a file of looks has its own name in a locale that is not UTF-8", {
+  skip_if_not("program" %in% welungad:::welungad_ways(), "the program is not found")
+  skip_if_not(l10n_info()[["UTF-8"]], "this locale is not UTF-8")
+  folder <- tempfile("study-")
+  dir.create(folder)
+  on.exit(unlink(folder, recursive = TRUE))
+  store <- file.path(folder, "l\u00f6oks.db")
+  script <- file.path(folder, "script.R")
+  case <- file.path(folder, "case.txt")
+  cat(staged()$case, file = case)
+  writeLines(c("library(welungad)", "words <- commandArgs(TRUE)", "looks <- data.frame(hypothesis = 'PFS', stage = 1, p = '0.002')",
+    "cat(graph_study(readLines(words[1]), words[2], looks)$taken)"), script)
+  libraries <- paste0("R_LIBS=", shQuote(paste(.libPaths(), collapse = ":")))
+  said <- system2(file.path(R.home("bin"), "Rscript"), shQuote(c("--vanilla", script, case, store)), stdout = TRUE, env = c("LC_ALL=C", libraries))
+  expect_equal(said, "1")
+  expect_setequal(setdiff(list.files(folder), paste0(basename(store), "-wal")), c("case.txt", basename(store), paste0(basename(store), ".case"), "script.R"))
+  expect_equal(graph_study(staged(), store)$records, 1L)
+})
