@@ -23,7 +23,7 @@ with_short_files <- function(code) {
   suppressWarnings(system2("/bin/sh", c("-c", shQuote(words)), stdout = TRUE, env = libraries))
 }
 
-# A case of 5,107 bytes, whose first 4,096 end within the numeral of an edge.
+# A case of more than 4,096 bytes.
 long_case <- c(
   "names <- sprintf('hypothesis-%02d', 1:15)",
   "edges <- matrix(1/14, 15, 15, dimnames = list(names, names))",
