@@ -4,7 +4,7 @@ use Rattle.field_core.specs.Texts.{IsBegun}
 use Rattle.case_model.specs.CaseView.{content}
 use Rattle.report.specs.TestReport.{name_if}
 use Rattle.report.proofs.Begun.{place_begun}
-use Rattle.report.proofs.HandedOn.{fault_on}
+use Rattle.field_core.proofs.Results.{on_err}
 use Rattle.report.proofs.ListedLines.{put_more}
 use Rattle.report.proofs.lines.put_names.Goals as goal
 
@@ -20,7 +20,7 @@ returns-in_err-put_name_if-clause-begun g c = λ f says.
     let case = content c.args.case.now in
     let below : c.loop-j.j < length case.names = omega arith in
     let e = says c.loop-j.j c.test.result below c.test.ensures in
-    fault_on c.from_residual.result _
+    on_err c.from_residual.result _
     (place_begun (λ j. name_if case j (f j)) c.args.text.now c.loop-j.text c.put_name_if.new.text c.loop-j.j (length case.names) (c.loop-j.invariant f says)
     below (subst (λ b. IsBegun c.loop-j.text c.put_name_if.new.text (name_if case c.loop-j.j b)) e c.in_err-put_name_if.ensures.begun))
 
