@@ -82,8 +82,8 @@ python_path <- function() {
   named <- Sys.getenv("WELUNGAD_PYTHON")
   found <- unname(Sys.which(if (nzchar(named)) named else "python3"))
   cure <- "let the environment variable WELUNGAD_PYTHON name it, or put it on the path"
-  if (!nzchar(found)) stop("a page needs python3, 3.8 or later, which is not found: ", cure, call. = FALSE)
-  is_late <- start_python(found, c("-c", "import sys; sys.exit(sys.version_info < (3, 8))"), FALSE) == 0
-  if (!is_late) stop("a page needs python3, 3.8 or later, and ", found, " is not: ", cure, call. = FALSE)
+  if (!nzchar(found)) stop("a page needs python3, 3.9 or later, which is not found: ", cure, call. = FALSE)
+  is_late <- start_python(found, c("-c", "import sys; sys.exit(sys.version_info < (3, 9))"), FALSE) == 0
+  if (!is_late) stop("a page needs python3, 3.9 or later, and ", found, " is not: ", cure, call. = FALSE)
   found
 }

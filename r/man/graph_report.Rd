@@ -26,7 +26,7 @@ be the one that \code{x} has: else there is no page.
 The page is made by the script \code{report.py} of Welungad's installation or checkout, so this call needs more than the others: the
 program, as \code{\link{welungad_run}} says, also if the package has the C library; the script, in the folder
 \code{share/welungad/tools} of the installation in whose \code{bin} the program is, or in the folder \code{tools} of the checkout; and
-\code{python3}, 3.8 or later, which the environment variable \code{WELUNGAD_PYTHON} names, or which is on the path. If one of them is
+\code{python3}, 3.9 or later, which the environment variable \code{WELUNGAD_PYTHON} names, or which is on the path. If one of them is
 missing, the call stops with a line that names it.
 }
 \value{

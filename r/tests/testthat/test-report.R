@@ -135,9 +135,9 @@ test_that("what a page needs is named", {
     with_variables(c(WELUNGAD = program), {
       expect_equal(welungad:::script_path("report.py", program), script)
       for (python in c("/nowhere/python3", "no-such-python")) {
-        with_variables(c(WELUNGAD_PYTHON = python), expect_error(graph_report(x, file), "a page needs python3, 3.8 or later, which is not found: let"))
+        with_variables(c(WELUNGAD_PYTHON = python), expect_error(graph_report(x, file), "a page needs python3, 3.9 or later, which is not found: let"))
       }
-      with_variables(c(WELUNGAD_PYTHON = stand_in("", 1)), expect_error(graph_report(x, file), "a page needs python3, 3.8 or later, and .* is not: let"))
+      with_variables(c(WELUNGAD_PYTHON = stand_in("", 1)), expect_error(graph_report(x, file), "a page needs python3, 3.9 or later, and .* is not: let"))
       if (nzchar(Sys.which("python3"))) expect_error(graph_report(x, file), "^there is no page: what it says$")
     })
     expect_false(file.exists(file))
