@@ -589,7 +589,10 @@ class Install(Room):
         if os.path.exists(count):
             os.remove(count)
         path = f"{self.path('signals')}:{self.environment['PATH']}"
+        # under nohup a hangup is ignored, which a shell cannot undo
+        hangup = signal.signal(signal.SIGHUP, signal.SIG_DFL)
         status = self.run_script("install", self.prefix, PATH=path, COUNT=count)[0]
+        signal.signal(signal.SIGHUP, hangup)
         shutil.rmtree(self.path("signals"))
         return status
 

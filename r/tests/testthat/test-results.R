@@ -267,14 +267,14 @@ test_that("each arrow goes from its hypothesis to the other, and each weight is 
     graph <- graph_create(c(A = "1/2", B = "1/3", C = "1/7"), edges)
     at <- welungad:::default_layout(3)
     nearest <- function(point) graph$labels[which.min((at[, 1] - point[1])^2 + (at[, 2] - point[2])^2)]
-    drawn <- function(graph, all) vapply(welungad:::arrows_of(graph, all, at, 0.1), function(it) {
+    drawn <- function(graph, all) vapply(welungad:::arrows_of(graph, all, welungad:::nodes_of(graph, all, at, NULL), FALSE), function(it) {
       paste(nearest(it$path[1, ]), nearest(it$path[nrow(it$path), ]), it$text)
     }, "")
     expect_setequal(drawn(graph, graph), c("A B 1/4", "C A 3/4"))
     rest <- graph_update(graph, "A")$updated_graph
     expect_equal(drawn(rest, graph), "C B 3/16")
     nodes <- welungad:::nodes_of(rest, graph, at, NULL)
-    expect_equal(nodes$weights, list(list(), list("11/24"), list("1/7")))
+    expect_equal(nodes$weights, list(character(), "11/24", "1/7"))
     expect_equal(nodes$here, c(FALSE, TRUE, TRUE))
     x <- graph_test(graph, c(A = 0.9, B = 0.001, C = 0.9))
     expect_equal(welungad:::nodes_of(graph, graph, at, x$rejected)$fill, replace(rep(welungad:::fill_plain, 3), 2, welungad:::fill_rejected))
