@@ -4,7 +4,8 @@
 full-N.txt     N hypotheses of weight 1/N, with an edge of 1/(N-1) from each to each other; all are rejected
 parallel-N.txt improved parallel gatekeeping with N primary and N secondary hypotheses: each primary one has weight 1/N
                and passes 1/N to each secondary one; each secondary one passes (1-\\epsilon)/(N-1) to each other
-               secondary one, and \\epsilon to one primary one; all are rejected
+               secondary one, and \\epsilon to one primary one; 32 are too wide, and of 8 all are
+               rejected
 quarter-N.txt  N hypotheses of weight 1/N in two halves: each passes 1/N to each other one of its half, and each of the first
                half \\epsilon/N to each of the second; all are rejected
 lines-N.txt    N MiB of comments, blank lines and edge lines, after a case whose last lines they are

@@ -1,4 +1,4 @@
-"""Reads the reports of `welungad`, strictly. For draw.py and report.py.
+"""Reads the reports of `welungad`, strictly. For draw.py, findings.py and report.py.
 
 Each reader takes the text that a command printed and the names of the hypotheses of its case. A text that is not the whole report
 of this command on these hypotheses raises `NotAReport`, so that neither a refusal nor the report of another command or case is

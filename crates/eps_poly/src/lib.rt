@@ -7,8 +7,8 @@
 //!   product with the divisor is the dividend, exactly if there is one).
 //! - `zero`, `constant`, `monomial`, `with`, `put`, `coefficient`, `is_zero`, `negate`, `content`, `low_order`,
 //!   `degree`, `factor`, `core`, `lowered`, by their definitions; `==`.
-//! - `add_assign`, `put_product`, `clear` and `lower` write in place, with the same values and refusals as `add`,
-//!   `mul`, `zero` and `lowered`. After a refusal the polynomial holds what was written so far.
+//! - `add_assign`, `sub_assign`, `put_product`, `clear` and `lower` write in place, with the same values and refusals as
+//!   `add`, `sub`, `mul`, `zero` and `lowered`. What is left of the polynomial after a refusal is in no clause.
 //! - The law `polynomials_have_one_core`: each polynomial but 0 is c * epsilon^k * P in one way, where P is its core.
 #![tactic(auto)]
 

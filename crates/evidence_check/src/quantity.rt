@@ -4,7 +4,7 @@ ghost use Rattle.evidence_check.specs.DocumentLines.{keyword, place_fault};
 
 use crate::ProofKind;
 
-/// What the numbers of evidence are: those after it a step, or those after it a keep.
+/// What the numbers of evidence belong to: a step, or a keep.
 #[derive(Clone, Copy)]
 pub enum Quantity {
     Flow,

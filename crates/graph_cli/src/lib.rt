@@ -8,7 +8,8 @@
 //!   answer is that of some bytes.
 //! - `case`, `proof`: a source that the words don't read stays as it was; one that they read was read to its end after status
 //!   0. The proof is read only after a case that the command can take. `case_taken`, `proof_taken`: how many bytes are taken at
-//!   most.
+//!   most. `proof_asked`: a call that ends with an answer has taken from the proof, if it
+//!   reads one and hasn't refused the case.
 //! - `file_word`: `file`, `none`.
 //! - Laws in `src/laws.rt`: `calls_have_one_answer`. `reports_are_of_the_closed_test`: what `test` prints with status 0, by any
 //!   priority, of a text, a sheet or JSON, names as rejected exactly the hypotheses that the closed test rejects. The adjusted

@@ -7,11 +7,13 @@
 //!   6 no look is added; with 8 and 9 only looks that commands before some place take. If no fault came, the status is up to 5,
 //!   or 8; and with these statuses no fault came. With 6 the keeper and the sink had none, with 9 the sources and the sink had
 //!   none.
-//! - `case`, `commands`, `untouched`: a source that isn't read stays as it was, and one that is was read to its end after
-//!   status 0. The commands are read only after a case that a study can take, and the keeper is asked only after all commands
+//! - `case`, `commands`, `untouched`: a source that isn't read stays as it was, and one that is read was read to its end
+//!   after status 0. The commands are read only after a case that a study can take, and the keeper is asked only after all commands
 //!   are accepted.
 //! - `case_taken`, `commands_taken`: of a source that isn't read to its end, at most one byte more than it may have is taken.
 //!   The takes are at most one more than the bytes that it may have.
+//! - `commands_asked`: a call that ends with an answer has taken from the commands, if it reads them and hasn't refused the
+//!   case.
 //! - `turns`: the keeper is called only after all commands are accepted, and its calls are at most one more than the looks that
 //!   they ask for.
 //! - `store_path`: `path`, `none`.
