@@ -312,7 +312,7 @@ class Graph:
     def test(self, p: Any, alpha: Given = ALPHA, priority: str = "first") -> Decision:
         """Decides the graphical test: which hypotheses are rejected, in which order, and the adjusted p-values.
 
-        `p` has a p-value for each hypothesis, from 0 to 1. `alpha` is the level, above 0 and at most 1, with at most four decimals.
+        `p` has a p-value for each hypothesis, from 0 to 1. `alpha` is the level, above 0 and at most 1: a fraction of whole numbers up to 10,000.
         `priority` says which hypothesis is rejected first of several that may be: the `first` or the `last` by position, or the one
         with the least `ratio` of p-value and weight. The rejected ones are the same.
 

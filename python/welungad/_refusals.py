@@ -61,8 +61,8 @@ _EXPLANATIONS = [
     ("malformed: case: share sum", "The shares sum to more than 1."),
     ("malformed: case: weight count component N", "The number of weights is not the number of hypotheses."),
     ("malformed: case: weight of NAME component N", "A weight is below 0."),
-    ("malformed: case: weight sum component N", "The weights sum to more than 1. Write thirds as 1/3: six times 0.166667 is more "
-                                                "than 1."),
+    ("malformed: case: weight sum component N", "The weights sum to more than 1. Write thirds as 1/3: three times 0.333334 is "
+                                                "more than 1."),
     ("malformed: case: self edge of NAME component N", "A hypothesis passes weight to itself."),
     ("malformed: case: repeated edge NAME NAME component N", "A pair has two edges."),
     ("malformed: case: edge NAME NAME component N", "An edge is not from 0 to 1."),
@@ -92,7 +92,7 @@ _EXPLANATIONS = [
     ("limit: spend steps N", "There are more than 32 steps of a table."),
     ("limit: size N", "A size is 0 or above 64, or the sum of two sizes is above 64."),
     ("limit: seed N", "A seed is 2^48 or more."),
-    ("limit: case: part alpha", "The numerator or the denominator of the level is above 10,000. It has at most four decimals."),
+    ("limit: case: part alpha", "The numerator or the denominator of the level is above 10,000. Write it with four decimals."),
     ("limit: case: part p of NAME", "The denominator of a p-value is above 10^30. Round one below 10^-30 up to 1e-30."),
     ("limit: case: part arrival N", "The denominator of a p-value is above 10^30. Round one below 10^-30 up to 1e-30."),
     ("limit: case: part spend of NAME stage N", "The numerator or the denominator of a fraction of spend is above 10,000."),

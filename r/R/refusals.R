@@ -7,8 +7,8 @@ refusal_table <- c(
   "^usage: word [0-9]+$" = "The command help lists the commands with their options.",
 
   # sums, whose amount is added
-  "^malformed: case: share sum$" = "Write thirds as 1/3: six times 0.166667 is more than 1.",
-  "^malformed: case: weight sum component " = "Write thirds as 1/3: six times 0.166667 is more than 1.",
+  "^malformed: case: share sum$" = "Write thirds as 1/3: three times 0.333334 is more than 1.",
+  "^malformed: case: weight sum component " = "Write thirds as 1/3: three times 0.333334 is more than 1.",
   "^malformed: case: row sum of " = "Write 1-\\epsilon beside \\epsilon, and thirds as 1/3.",
   "^malformed: case: spend sum of " = "Make the levels of this hypothesis sum to at most its own level.",
 

@@ -19,9 +19,9 @@ A text is taken as it stands. A double from 0 to 1 is read by the first of these
   \item \code{x} rounded up to a multiple of 10^-30.
 }
 If the package has the C library, the library reads the doubles, by a function that is proved. Otherwise, or if the library is of
-an earlier release, the package reads them by the same rule; a test compares the two on 100,000 doubles. A double below 0 is
-read as its opposite is, and one above 1 by rule 1 or as its shortest decimal. No case has such numbers, so they are only named when
-they are refused.
+an earlier release, the package reads them by the same rule; a test compares the two on 100,000 doubles. No case
+has numbers below 0 or above 1, so these are read only to name them when they are refused: below 0 as the opposite is, above 1 by
+rule 1 or as the shortest decimal.
 
 So 1/3 typed in R is 1/3, 0.025 is 1/40, and 0.3333 is 3333/10000. The sum 0.1 + 0.2 is 0.30000000000000004, since R's sum
 is not the double of 3/10.

@@ -4,7 +4,7 @@
 \alias{bound_of}
 \title{Bounds of true discoveries}
 \description{
-For each set of at most 16 hypotheses, a lower bound on the number of false hypotheses in it: its size minus the size of its largest subset that the closed test does not reject. \code{graph_bounds} uses weighted Bonferroni tests, \code{graph_simes} weighted Simes tests.
+For each set of hypotheses (at most 16 in the graph), a lower bound on the number of false hypotheses in it: its size minus the size of its largest subset that the closed test does not reject. \code{graph_bounds} uses weighted Bonferroni tests, \code{graph_simes} weighted Simes tests.
 }
 \usage{
 graph_bounds(graph, p, alpha = 0.025)
@@ -14,12 +14,12 @@ bound_of(x, hypotheses)
 \arguments{
   \item{graph}{a graph, as \code{\link{graph_create}}, \code{\link{graph_entangle}}, \code{\link{graph_catalogue}} or \code{\link{graph_read}} makes it.}
   \item{p}{the p-values: doubles, texts, or fractions of gmp, read as \code{\link{as_exact}} says. They are put in the order of the hypotheses by their names, if they have names: a vector, one row or column of a matrix or a data frame, or the columns \code{hypothesis} and \code{p} of a data frame. A double that no decimal of up to 30 places rounds to is rounded up to a multiple of 10^-30, with a message of class \code{welungad_rounded}.}
-  \item{alpha}{the level: above 0, at most 1, a fraction of whole numbers up to 10,000, so a decimal has at most four digits after the point.}
+  \item{alpha}{the level: above 0, at most 1, a fraction of whole numbers up to 10,000, such as 0.025 or 0.00625.}
   \item{x}{a result of \code{graph_bounds} or \code{graph_simes}.}
   \item{hypotheses}{a set of hypotheses, by name, label or position.}
 }
 \details{
-Nothing is claimed of when Simes' test is valid under dependence. What it rejects is not what \code{\link{graph_test}} rejects.
+Nothing is claimed of when Simes' test is valid under dependence. It rejects at least what \code{\link{graph_test}} rejects, and may reject more.
 }
 \value{
 An object of class \code{welungad_bounds} with the parts \code{sets} and \code{bound}. A result of \code{graph_simes} also has

@@ -16,7 +16,7 @@ graph_report(x, file, p = NULL, alpha = 0.025, title = NULL)
 }
 \details{
 The page has the decision on each hypothesis with its levels and adjusted p-value, the graph before the first rejection and after
-each one, all intersections of at most 6 hypotheses, bounds on the number of false hypotheses, the case, and how to repeat and to
+each one, all intersections (if there are at most 6 hypotheses), bounds on the number of false hypotheses, the case, and how to repeat and to
 check the decision. The hypotheses have their labels; where the program has another name for one, it is in parentheses. The
 page has no scripts and needs no other file.
 

@@ -2,7 +2,7 @@
 \alias{graph_test_closure}
 \title{Each intersection}
 \description{
-Shows each intersection of at most 16 hypotheses: the weights and local levels of its members, whether the local test rejects it, and whether the closed test does.
+Shows each intersection of the hypotheses (at most 16 in the graph): the weights and local levels of its members, whether the local test rejects it, and whether the closed test does.
 }
 \usage{
 graph_test_closure(graph, p, alpha = 0.025)
@@ -10,7 +10,7 @@ graph_test_closure(graph, p, alpha = 0.025)
 \arguments{
   \item{graph}{a graph, as \code{\link{graph_create}}, \code{\link{graph_entangle}}, \code{\link{graph_catalogue}} or \code{\link{graph_read}} makes it.}
   \item{p}{the p-values: doubles, texts, or fractions of gmp, read as \code{\link{as_exact}} says. They are put in the order of the hypotheses by their names, if they have names: a vector, one row or column of a matrix or a data frame, or the columns \code{hypothesis} and \code{p} of a data frame. A double that no decimal of up to 30 places rounds to is rounded up to a multiple of 10^-30, with a message of class \code{welungad_rounded}.}
-  \item{alpha}{the level: above 0, at most 1, a fraction of whole numbers up to 10,000, so a decimal has at most four digits after the point.}
+  \item{alpha}{the level: above 0, at most 1, a fraction of whole numbers up to 10,000, such as 0.025 or 0.00625.}
 }
 \details{
 The weights are what the program prints for the command \code{weights}. A set is rejected by the closed test if its bound in

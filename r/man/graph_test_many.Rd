@@ -10,7 +10,7 @@ graph_test_many(graph, P, alpha = 0.025)
 \arguments{
   \item{graph}{a graph, as \code{\link{graph_create}}, \code{\link{graph_entangle}}, \code{\link{graph_catalogue}} or \code{\link{graph_read}} makes it.}
   \item{P}{a matrix or a data frame with a row of p-values for each trial. Columns with names are put in the order of the hypotheses.}
-  \item{alpha}{the level: above 0, at most 1, a fraction of whole numbers up to 10,000, so a decimal has at most four digits after the point.}
+  \item{alpha}{the level: above 0, at most 1, a fraction of whole numbers up to 10,000, such as 0.025 or 0.00625.}
 }
 \details{
 P-values are read as \code{\link{as_exact}} says. A p-value that is missing or not from 0 to 1 is an error with its row and column,

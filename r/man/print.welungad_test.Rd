@@ -55,7 +55,8 @@ Prints results, and gives them as data frames, as summaries, and in parts.
 \details{
 The table of a decision has a row for each hypothesis. Its weight and its local level are those at its rejection, or in the end if it is
 not rejected; \code{step} is its place among the rejections. Below the table, \code{print} names a p-value that agrees with its level in
-the digits shown, and one that is a double beside a fraction on the other side of the level.
+the digits shown, and one that is at most four units in the last place from a fraction on the other side of
+the level.
 
 The data frame of a closed test has a row for each intersection, with a weight and a local level for each hypothesis in it. That of
 updated graphs has a row for each hypothesis that is left after each removal. That of a staged test has a row for each look.

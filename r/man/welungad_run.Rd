@@ -26,8 +26,8 @@ the path. The option \code{welungad.way} chooses one of both, \code{"library"} o
 
 The calls of this package turn a refusal into a condition of the classes \code{welungad_refusal} and \code{error}. It has the parts
 \code{status} and \code{line} of the program, \code{where} (the argument and the place), \code{amount} (for a sum above 1, how much it
-is) and \code{advice} (a sentence that says what to do). An answer that is not the whole one to the command, for the hypotheses of the
-case, is an error: so it is if \code{WELUNGAD} names another program.
+is) and \code{advice} (a sentence that says what to do). An answer that is not whole, or not for the
+hypotheses of the case, is an error, as when \code{WELUNGAD} names another program.
 }
 \value{
 \code{welungad_run}: a list with \code{status} and \code{text}, as the program ends and prints. It signals no refusal.
