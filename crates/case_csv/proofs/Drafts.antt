@@ -21,7 +21,7 @@ use Rattle.case_model.specs.CaseView.{content}
 use Rattle.case_model.specs.Content.{content_of}
 use Rattle.case_model.specs.Draft.{goes_between, have_known_ends, have_known_arrivals}
 use Rattle.case_model.proofs.Holding.{both}
-use Rattle.edge_text.specs.CanonicalText.{is_absent}
+use Rattle.case_model.specs.Entries.{is_zero_entry}
 use Rattle.case_csv.specs.declared.fault.CsvFault.{CsvFault}
 use Rattle.case_csv.specs.declared.fault.CsvFault.TheVariants as faults
 use Rattle.case_csv.specs.declared.fault.RowKind.TheVariants.{Header, Width}
@@ -72,7 +72,7 @@ three_wide header names e =
 -- ---- known ends
 
 edge_known : (count from to : ℕ) (entry : List Ratio) → from < count → to < count → list_all (goes_between count) (edge_at from to entry) ≡ true
-edge_known count from to entry f t = by ((from == to) && is_absent entry)
+edge_known count from to entry f t = by ((from == to) && is_zero_entry entry)
   where
     by : (b : Bool) → list_all (goes_between count) (if b then [] else record { from = from; to = to; entry = entry } ∷ []) ≡ true
     by true = refl

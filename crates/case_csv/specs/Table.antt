@@ -10,8 +10,8 @@ use Rattle.fraction.specs.Numerals.{numeral_of}
 use Rattle.case_model.specs.declared.draft.Draft.{Draft}
 use Rattle.case_model.specs.declared.draft_component.DraftComponent.{DraftComponent}
 use Rattle.case_model.specs.declared.draft_edge.DraftEdge.{DraftEdge}
+use Rattle.case_model.specs.Entries.{is_zero_entry}
 use Rattle.entries.specs.Entries.{entry_of}
-use Rattle.edge_text.specs.CanonicalText.{is_absent}
 use Rattle.text_lines.specs.Words.{is_blank, after_blanks}
 use Rattle.case_csv.specs.declared.fault.RowKind.{RowKind}
 use Rattle.case_csv.specs.declared.fault.RowKind.TheVariants.{NoHeader, Header, Count, Width, Name, Number, Expr}
@@ -150,7 +150,7 @@ sheet_of (header ∷ records) = do
 
 -- the edge of an entry, if it has one: a zero from a hypothesis to itself is not an edge
 abbrev pub edge_at : ℕ → ℕ → List Ratio → List DraftEdge
-edge_at from to entry = if (from == to) && is_absent entry then [] else record { from = from; to = to; entry = entry } ∷ []
+edge_at from to entry = if (from == to) && is_zero_entry entry then [] else record { from = from; to = to; entry = entry } ∷ []
 
 -- the edges of a row, from the hypothesis at one place to that at another place and to those after it
 abbrev pub row_edges : ℕ → ℕ → List (List Ratio) → List DraftEdge

@@ -9,7 +9,6 @@ use crate::cells::{cell, entry, numeral, p_value, width};
 use crate::{CsvFault, RowKind};
 use case_model::{DraftEdge, Entry};
 use csv::ByteRecord;
-use edge_text::is_absent;
 use field_core::{List, NoMemory};
 use fraction::Fraction;
 use std::alloc::Global;
@@ -123,7 +122,7 @@ fn take_edge(
 ) -> Result<(), NoMemory>
     ensures { OnOk result (edges.new ≡ edges.old ++ kept keep (edge_at from to entry)) }
 {
-    if keep && !(from == to && is_absent(&entry)) {
+    if keep && !(from == to && entry.is_zero()) {
         edges.push(DraftEdge { from, to, entry })?;
     }
     Ok(())

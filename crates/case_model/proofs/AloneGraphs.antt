@@ -3,7 +3,6 @@ use Rattle.std.proofs.Common.{◌≡◌, sym, ap, ◌∙◌, subst, ℕ, ◌<◌
 use Rattle.field_core.specs.Number.{Number}
 use Rattle.field_core.specs.Arithmetic.{◌*ε◌}
 use Rattle.field_core.specs.Limit.{limit}
-use Rattle.field_core.specs.LimitParts.{IsUnit}
 use Rattle.field_core.specs.NumberField.{number_field}
 use Rattle.field_core.specs.Sums.{sum_below}
 use Rattle.field_core.specs.Graph.{Graph}
@@ -11,7 +10,6 @@ use Rattle.field_core.specs.Sets.{IsIn, whole}
 use Rattle.field_core.specs.Walks.{IsComponentWeight}
 use Rattle.field_core.specs.Laws.Order.{number_zero_add, number_one_multiply}
 use Rattle.field_core.proofs.Agreement.{Agrees}
-use Rattle.field_core.proofs.NumberWeights.{weight_unit}
 use Rattle.case_model.specs.EntangledGraph.{EntangledGraph, IsValidEntangled}
 use Rattle.case_model.specs.IntersectionWeight.{IsIntersectionWeight}
 use Rattle.case_model.specs.TextbookGraphs.{IsAlone}
@@ -44,9 +42,6 @@ module _ (E : EntangledGraph) (V : IsValidEntangled E) (G : Graph Number) (A : I
     left_weight : (I : ℕ → Bool) (k : ℕ) → IsIn E.hypotheses I k → IsComponentWeight number_field E.hypotheses (E.graph 0) I k ((left I).weight k)
     left_weight = closed_weight number_field E.hypotheses left C (E.graph 0) (V.graph 0 first_counts)
         (agrees_on E.hypotheses whole (E.graph 0) G (left whole) alone_agrees S)
-
-    pub left_unit : (I : ℕ → Bool) (k : ℕ) → IsIn E.hypotheses I k → IsUnit ((left I).weight k)
-    left_unit I k q = weight_unit E.hypotheses (E.graph 0) I k ((left I).weight k) (V.graph 0 first_counts) q (left_weight I k q)
 
     pub left_intersection : (I : ℕ → Bool) (k : ℕ) → IsIn E.hypotheses I k → IsIntersectionWeight E I k (limit ((left I).weight k))
     left_intersection I k q = only_weight I k ((left I).weight k) (left_weight I k q)

@@ -1,7 +1,7 @@
 -- Legal orders and the closed test, for any rule that allows members alone, and allows in each smaller set what it allows in a set. An example is
 -- what passes at a weight and still passes at a greater one.
 use Rattle.std.proofs.Common.{◌≡◌, inl, inr, refl, sym, ap, ◌∙◌, ℕ, ◌<◌, Bool, false, List, [], ◌∷◌}
-use Rattle.field_core.specs.Sets.{IsIn, IsSubset, HaveSameMembers, dropping, whole}
+use Rattle.field_core.specs.Sets.{IsIn, IsSubset, dropping, whole}
 use Rattle.field_core.specs.Runs.{left_after}
 use Rattle.field_core.proofs.Live.{dropping_other, true_or_false, true_not_false}
 use Rattle.case_model.specs.LegalOrder.{IsListed, IsOrderBy, IsCompleteBy}
@@ -15,12 +15,6 @@ module _ (m : ℕ) (Rule : (ℕ → Bool) → ℕ → Type 0) where
   pub record IsConsonant : Type 0 where
     pub inside : (I : ℕ → Bool) (k : ℕ) → Rule I k → IsIn m I k
     pub smaller : (I J : ℕ → Bool) (k : ℕ) → IsSubset m J I → IsIn m J k → Rule I k → Rule J k
-
-  -- the rule doesn't distinguish sets with the same members
-  pub same_rule : IsConsonant → (I J : ℕ → Bool) (k : ℕ) → HaveSameMembers m I J → Rule I k → Rule J k
-  same_rule C I J k same r =
-      let p : IsIn m I k = C.inside I k r in
-      C.smaller I J k (λ i q e. same i q ∙ e) (record { below = p.below; member = sym (same k p.below) ∙ p.member }) r
 
   -- of each set that holds a hypothesis of an order, the rule allows one: the first of the order that is in it
   pub listed_rejects : IsConsonant → (js : List ℕ) (I J : ℕ → Bool) → IsOrderBy Rule I js → IsSubset m J I → (j : ℕ) → IsIn m J j

@@ -1,7 +1,8 @@
 -- What holds where tests are true.
-use Rattle.std.proofs.Common.{◌≡◌, refl, ap₂, ℕ, zero, suc, ◌<◌, List, [], ◌∷◌, ◌++◌, length, get_or, Bool, true, false, ◌&&◌}
+use Rattle.std.proofs.Common.{◌≡◌, refl, ap₂, subst, ℕ, zero, suc, ◌<◌, List, [], ◌∷◌, ◌++◌, length, map, get_or, Bool, true, false, ◌&&◌}
 use Rattle.std.proofs.Common.{arith}
-use Rattle.std.specs.List.{list_all}
+use Rattle.std.specs.List.{All, list_all}
+use Rattle.std.proofs.lemmas.List.{get_or-map, length-map}
 use Rattle.std.proofs.Math.ListN.{set, replicate}
 
 pub record Both (a b : Bool) : Type 0 where
@@ -37,3 +38,12 @@ all_push test (x ∷ xs) y h k = let b = both (test x) (list_all test xs) h in a
 pub all_replicate : {A : Type 0} (test : A → Bool) (n : ℕ) (x : A) → test x ≡ true → list_all test (replicate n x) ≡ true
 all_replicate test zero x h = refl
 all_replicate test (suc n) x h = ap₂ (λ a b. a && b) h (all_replicate test n x h)
+
+pub all_append : {A : Type 0} (test : A → Bool) (xs ys : List A) → list_all test xs ≡ true → list_all test ys ≡ true
+    → list_all test (xs ++ ys) ≡ true
+all_append test [] ys h k = k
+all_append test (x ∷ xs) ys h k = let b = both (test x) (list_all test xs) h in ap₂ (λ a b. a && b) b.left (all_append test xs ys b.right k)
+
+-- what holds of all items of a mapped list holds of what is mapped
+pub all_from_map : {A B : Type 0} (P : B → Type 0) (f : A → B) (xs : List A) → All P (map f xs) → All (λ x. P (f x)) xs
+all_from_map P f xs h n d b = subst P (get_or-map f xs n d (f d) b) (h n (f d) (simp length-map b))

@@ -56,10 +56,6 @@ module _ (Rule : (ℕ → Bool) → ℕ → Type 0) where
   pub order_next : (js : List ℕ) (j : ℕ) (I : ℕ → Bool) → IsOrderBy Rule I js → Rule (left_after I js) j → IsOrderBy Rule I (js ++ (j ∷ []))
   order_next js j I o h = order_append js (j ∷ []) I o (h, tt)
 
-  pub order_start : (js ks : List ℕ) (I : ℕ → Bool) → IsOrderBy Rule I (js ++ ks) → IsOrderBy Rule I js
-  order_start [] ks I o = tt
-  order_start (j ∷ js) ks I o = (o.0, order_start js ks (dropping j I) o.1)
-
   pub order_rest : (js ks : List ℕ) (I : ℕ → Bool) → IsOrderBy Rule I (js ++ ks) → IsOrderBy Rule (left_after I js) ks
   order_rest [] ks I o = o
   order_rest (j ∷ js) ks I o = order_rest js ks (dropping j I) o.1

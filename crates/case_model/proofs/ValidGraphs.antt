@@ -60,7 +60,7 @@ entry_value-zero e h =
     (λ k g. ap (λ x. x *ε power_of_epsilon k) (zero_at e k h) ∙ number_zero_multiply (power_of_epsilon k) ∙ sym field_zero)
     ∙ sum_zero number_field 5 ∙ field_zero
 
-no_edge_zero : is_zero_entry no_edge ≡ true
+pub no_edge_zero : is_zero_entry no_edge ≡ true
 unfolding is_zero_entry
 no_edge_zero = refl
 

@@ -1,11 +1,13 @@
 -- What a case holds, the content that a draft denotes, and the entangled graph, the p-values and the level of a content.
-use Rattle.std.specs.Prelude.{◌≡◌, ◌≤◌, ◌&&◌, true, ℕ, ◌*◌, ◌/◌, ◌%◌, Bool, List, [], Option, Some, None, map, length, get_or}
+use Rattle.std.specs.Prelude.{◌≡◌, ◌≤◌, ◌==◌, ◌&&◌, true, ℕ, ◌*◌, ◌/◌, ◌%◌, Bool, List, [], Option, Some, None, map, length, get_or}
 use Rattle.std.specs.Prelude.{if◌then◌else◌, is_some}
 use Rattle.std.specs.Option.{option_map_or}
 use Rattle.std.specs.List.{list_any, list_all, find, filter_map, range_with_len}
 use Rattle.field_core.specs.Number.{Number}
 use Rattle.field_core.specs.Graph.{Graph}
 use Rattle.field_core.specs.declared.ratio.Ratio.{Ratio}
+use Rattle.field_core.specs.View.{terms}
+use Rattle.fraction.specs.Tests.{is_one}
 use Rattle.fraction.specs.View.{number_of}
 use Rattle.case_model.specs.declared.draft.Draft.{Draft}
 use Rattle.case_model.specs.declared.draft_component.DraftComponent.{DraftComponent}
@@ -129,6 +131,10 @@ IsRejectedIn c j = ForSingle c.inputs (λ ps. IsRejected (entangled c) (number_a
 -- each entry of each table has a coefficient for each power of epsilon from 0 to 4
 unfoldable pub has_coefficients : List Component → Bool
 has_coefficients ks = list_all (λ k. list_all is_whole_entry k.edges) ks
+
+-- there is one component, and its share is 1
+unfoldable pub is_alone : List Component → Bool
+is_alone ks = length ks == 1 && list_all (λ k. is_one (terms k.share)) ks
 
 -- no edge has a coefficient other than 0 above power 0
 unfoldable pub is_plain : Content → Bool

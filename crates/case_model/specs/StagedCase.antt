@@ -2,7 +2,6 @@
 use Rattle.std.specs.Prelude.{ℕ, Bool, true, List, [], get_or}
 use Rattle.std.specs.List.{list_all}
 use Rattle.fraction.specs.View.{number_of}
-use Rattle.field_core.specs.Number.{Number}
 use Rattle.case_model.specs.declared.draft_stages.Arrival.{Arrival}
 use Rattle.case_model.specs.declared.inputs.Inputs.{Inputs}
 use Rattle.case_model.specs.declared.inputs.Inputs.TheVariants.{Bare, Single, Staged}
@@ -10,7 +9,7 @@ use Rattle.case_model.specs.declared.spend.Spend.{Spend}
 use Rattle.case_model.specs.declared.spend.Spend.TheVariants.{Shares, Table}
 use Rattle.case_model.specs.Draft.{is_short_level}
 use Rattle.case_model.specs.Content.{Content, entangled}
-use Rattle.case_model.specs.StagedTest.{MeetsAt, IsStagedLegal, IsStagedRejected}
+use Rattle.case_model.specs.StagedTest.{IsStagedLegal, IsStagedRejected}
 
 -- what the hypotheses spend; nothing if there are no stages
 abbrev pub spends_in : Inputs → List Spend
@@ -38,10 +37,6 @@ stages_in Bare = 0
 stages_in (Single ps) = 0
 
 module _ (c : Content) (values : List Arrival) where
-  -- at a weight, `k` meets its level at the stage of a value that has arrived
-  abbrev pub MeetsIn : ℕ → Number → Arrival → Type 0
-  MeetsIn = MeetsAt (spend_in c) (number_of c.alpha) values
-
   -- `k` is legal in the set `I`
   abbrev pub IsStagedLegalIn : (ℕ → Bool) → ℕ → Type 0
   IsStagedLegalIn = IsStagedLegal (spend_in c) (number_of c.alpha) values (entangled c)

@@ -24,7 +24,7 @@ impl Case {
     ghost use Rattle.case_model.specs.Sums.{ratio_at};
     ghost use Rattle.case_model.specs.Entries.{entry_at};
     ghost use Rattle.case_model.specs.Draft.{is_level, ArePValues};
-    ghost use Rattle.case_model.specs.Content.{component_at, IfSingle, IfStaged, AreStages, has_coefficients, is_plain};
+    ghost use Rattle.case_model.specs.Content.{component_at, IfSingle, IfStaged, AreStages, has_coefficients, is_alone, is_plain};
     ghost use Rattle.case_model.specs.Names.{position_of};
     ghost use Rattle.case_model.specs.Validity.{IsValidContent};
     ghost use Rattle.case_model.specs.CaseView.{content};
@@ -150,6 +150,14 @@ impl Case {
         ensures stages { IfStaged result.now (AreStages (length (content self.now).names)) }
     {
         &self.inputs
+    }
+
+    /// Whether there is one component, and its share is 1.
+    #[tactic(auto, unfolding(crate::specs::Content::is_alone))]
+    pub fn is_alone(&self) -> bool
+        ensures { result ≡ is_alone (content self.now).components }
+    {
+        self.components() == 1 && self.share(0).is_one()
     }
 
     /// Whether no edge has a coefficient other than 0 above power 0.

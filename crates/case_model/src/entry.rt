@@ -71,7 +71,7 @@ impl Entry {
 
     /// Whether each coefficient is 0.
     #[tactic(auto, unfolding(crate::specs::Entries::is_zero_entry))]
-    pub(crate) fn is_zero(&self) -> bool
+    pub fn is_zero(&self) -> bool
         ensures { result ≡ is_zero_entry self.now }
     {
         are_zero(&self.coefficients)

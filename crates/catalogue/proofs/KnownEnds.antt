@@ -1,19 +1,13 @@
 -- The edges of named graphs go between their hypotheses.
-use Rattle.std.proofs.Common.{◌≡◌, refl, ap, ap₂, ◌∙◌, ℕ, zero, suc, ◌+◌, ◌<◌, List, [], ◌∷◌, ◌++◌, length, Bool, true}
+use Rattle.std.proofs.Common.{◌≡◌, refl, ap, ◌∙◌, ℕ, zero, suc, ◌+◌, ◌<◌, List, length, Bool, true}
 use Rattle.std.proofs.Common.{◌&&◌, Option, Some, None, arith}
 use Rattle.std.proofs.lemmas.Bool.Decides.{nat_tests}
 use Rattle.std.proofs.lemmas.List.FromFn.{length-map-range_with_len}
 use Rattle.std.specs.List.{list_all, flat_map, range_with_len}
-use Rattle.case_model.proofs.Holding.{both}
+use Rattle.case_model.proofs.Holding.{all_append}
 use Rattle.case_model.specs.Draft.{goes_between, have_known_ends, have_known_arrivals}
 use Rattle.field_core.specs.declared.ratio.Ratio.{Ratio}
 use Rattle.catalogue.specs.WeightedGraphs.{WeightedGraph, name_of, edge_with, edge_in, edges_from, edges_of, draft_of}
-
-all_append : {A : Type 0} (test : A → Bool) (xs ys : List A) → list_all test xs ≡ true → list_all test ys ≡ true → list_all test (xs ++ ys) ≡ true
-all_append test [] ys h k = k
-all_append test (x ∷ xs) ys h k =
-    let b = both (test x) (list_all test xs) h in
-    ap₂ ◌&&◌ b.left (all_append test xs ys b.right k)
 
 -- what holds of what each of `n` places from `a` on gives, holds of all
 pub all_flat : {A : Type 0} (test : A → Bool) (f : ℕ → List A) (a n m : ℕ) → a + n ≡ m → ((i : ℕ) → i < m → list_all test (f i) ≡ true)

@@ -18,7 +18,7 @@ use Rattle.case_model.specs.declared.draft_stages.DraftStages.{DraftStages}
 use Rattle.case_model.specs.declared.inputs.Inputs.{Inputs}
 use Rattle.case_model.specs.declared.inputs.Inputs.TheVariants.{Bare, Single, Staged}
 use Rattle.case_model.specs.declared.inputs.Stages.{Stages}
-use Rattle.case_model.specs.Content.{Content}
+use Rattle.case_model.specs.Content.{Content, is_alone}
 use Rattle.case_model.specs.ValidDraft.{Each}
 use Rattle.case_model.proofs.Holding.{both}
 use Rattle.text_lines.specs.Forms.{Leaf, Say, Line, Then, May, Many, texts_seen}
@@ -31,7 +31,7 @@ use Rattle.edge_text.specs.Document.{Lines, edge_line, further_line, block, bloc
 use Rattle.edge_text.specs.Grammar.{Words, one}
 use Rattle.edge_text.specs.WordReading.{number, numbers, given, edge, count, arrival}
 use Rattle.edge_text.specs.CanonicalText.{number_word, alpha_words, names_words, p_words, share_words, weights_words, stages_words, arrive_words, table_lines}
-use Rattle.edge_text.specs.CanonicalText.{is_alone, block_lines, blocks_lines, spends_lines, stages_lines, p_lines, late_lines, canonical_lines, canonical_text}
+use Rattle.edge_text.specs.CanonicalText.{block_lines, blocks_lines, spends_lines, stages_lines, p_lines, late_lines, canonical_lines, canonical_text}
 use Rattle.edge_text.proofs.CanonicalDrafts.{edges_from, untabled, p_of, stages_in, draft_of}
 use Rattle.edge_text.proofs.CanonicalWords.{IsSaid, zip_map, number_is_word, numbers_are_words, whole_is, whole_is_word}
 use Rattle.edge_text.proofs.CanonicalLines.{each_holds, keyed, line_says, line_apart, all_append, all_flat, texts_spelt, AreDistinct, IsEntry, edges_lines, edges_said}

@@ -1,6 +1,6 @@
 -- The draft that the canonical text of a case says, and that it has the content of the case.
 use Rattle.std.proofs.Common.{◌≡◌, ◌≢◌, refl, sym, ap, ap₂, subst, ◌∙◌, ℕ, zero, suc, ◌+◌, ◌*◌, ◌/◌, ◌%◌, ◌<◌}
-use Rattle.std.proofs.Common.{◌==◌, inl, inr, List, [], ◌∷◌, length, map, get_or, Bool, true, false, Option, Some, None, pos, arith}
+use Rattle.std.proofs.Common.{◌==◌, inl, inr, List, [], ◌∷◌, length, replicate, map, get_or, Bool, true, false, Option, Some, None, pos, arith}
 use Rattle.std.proofs.lemmas.Bool.{cases_Bool}
 use Rattle.std.proofs.lemmas.Bool.Decides.{nat_tests, Decides-int_eq}
 use Rattle.std.proofs.lemmas.List.{same_lists, get_or_default}
@@ -11,7 +11,7 @@ use Rattle.field_core.specs.View.{terms}
 use Rattle.field_core.specs.declared.ratio.Ratio.{Ratio}
 use Rattle.fraction.specs.Tests.{is_zero}
 use Rattle.fraction.proofs.SameRatios.{same_ratio}
-use Rattle.case_model.specs.Sums.{zero_ratio, ratio_at}
+use Rattle.case_model.specs.Sums.{zero_ratio}
 use Rattle.case_model.specs.declared.component.Component.{Component}
 use Rattle.case_model.specs.declared.draft.Draft.{Draft}
 use Rattle.case_model.specs.declared.draft_component.DraftComponent.{DraftComponent}
@@ -20,10 +20,9 @@ use Rattle.case_model.specs.declared.draft_stages.DraftStages.{DraftStages}
 use Rattle.case_model.specs.declared.inputs.Inputs.{Inputs}
 use Rattle.case_model.specs.declared.inputs.Inputs.TheVariants.{Bare, Single, Staged}
 use Rattle.case_model.specs.Draft.{has_ends}
-use Rattle.case_model.specs.Entries.{no_edge}
+use Rattle.case_model.specs.Entries.{no_edge, is_zero_entry}
 use Rattle.case_model.specs.Content.{Content, content_of, edge_between, table_of, tabled, given, inputs_of, has_coefficients}
 use Rattle.case_model.proofs.Holding.{both}
-use Rattle.edge_text.specs.CanonicalText.{is_absent}
 
 -- ---- the draft
 
@@ -39,7 +38,7 @@ before false edge edges = edge ∷ edges
 -- the edges of a table that aren't 0, in its order; the first entry has this place
 abbrev pub edges_from : ℕ → ℕ → List (List Ratio) → List DraftEdge
 edges_from m place [] = []
-edges_from m place (entry ∷ entries) = before (is_absent entry) (edge_at m place entry) (edges_from m (place + 1) entries)
+edges_from m place (entry ∷ entries) = before (is_zero_entry entry) (edge_at m place entry) (edges_from m (place + 1) entries)
 
 abbrev pub untabled : ℕ → Component → DraftComponent
 untabled m k = record { share = k.share; weights = k.weights; edges = edges_from m 0 k.edges }
@@ -70,20 +69,18 @@ zero_is x h =
     let n : x.num ≡ pos 0 = (Decides-int_eq x.num (pos 0)).0 h in
     same_ratio x zero_ratio (ap₂ (λ n d. record { num = n; den = d }) n (den_of_zero (terms x) x.valid n))
 
-pub absent_is : (e : List Ratio) → length e ≡ 5 → is_absent e ≡ true → e ≡ no_edge
-unfolding is_absent ratio_at
-absent_is (a ∷ b ∷ c ∷ d ∷ e ∷ []) l h =
-    let h4 = both _ (is_zero (terms e)) h in
-    let h3 = both _ (is_zero (terms d)) h4.left in
-    let h2 = both _ (is_zero (terms c)) h3.left in
-    let h1 = both _ (is_zero (terms b)) h2.left in
-    rw (zero_is a h1.left, zero_is b h1.right, zero_is c h2.right, zero_is d h3.right, zero_is e h4.right) refl
-absent_is [] l h = absurd (cc)
-absent_is (a ∷ []) l h = absurd (omega arith)
-absent_is (a ∷ b ∷ []) l h = absurd (omega arith)
-absent_is (a ∷ b ∷ c ∷ []) l h = absurd (omega arith)
-absent_is (a ∷ b ∷ c ∷ d ∷ []) l h = absurd (omega arith)
-absent_is (a ∷ b ∷ c ∷ d ∷ e ∷ f ∷ g) l h = absurd (omega arith)
+zeros_are : (n : ℕ) (xs : List Ratio) → length xs ≡ n → list_all (λ x. is_zero (terms x)) xs ≡ true → xs ≡ replicate n zero_ratio
+zeros_are zero [] l h = refl
+zeros_are zero (x ∷ xs) l h = absurd (omega arith)
+zeros_are (suc n) [] l h = absurd (omega arith)
+zeros_are (suc n) (x ∷ xs) l h =
+    let b = both (is_zero (terms x)) (list_all (λ x. is_zero (terms x)) xs) h in
+    let m : length xs ≡ n = omega arith in
+    ap₂ ◌∷◌ (zero_is x b.left) (zeros_are n xs m b.right)
+
+pub absent_is : (e : List Ratio) → length e ≡ 5 → is_zero_entry e ≡ true → e ≡ no_edge
+unfolding is_zero_entry
+absent_is e l h = zeros_are 5 e l h
 
 -- ---- the table of the edges
 
@@ -129,9 +126,9 @@ module _ (m : ℕ) (some : 0 < m) where
   beyond p k (e ∷ es) h =
       let next : k < p + 1 = omega arith in
       let other : p ≢ k = λ q. omega arith in
-      found_before (is_absent e) p k e (edges_from m (p + 1) es) other ∙ beyond (p + 1) k es next
+      found_before (is_zero_entry e) p k e (edges_from m (p + 1) es) other ∙ beyond (p + 1) k es next
 
-  here : (b : Bool) (p : ℕ) (e : List Ratio) (es : List (List Ratio)) → is_absent e ≡ b → length e ≡ 5
+  here : (b : Bool) (p : ℕ) (e : List Ratio) (es : List (List Ratio)) → is_zero_entry e ≡ b → length e ≡ 5
       → edge_between (before b (edge_at m p e) (edges_from m (p + 1) es)) (p / m) (p % m) ≡ e
   here true p e es h l = let next : p < p + 1 = omega arith in beyond (p + 1) p es next ∙ sym (absent_is e l h)
   here false p e es h l = found_first p e (edges_from m (p + 1) es)
@@ -142,11 +139,11 @@ module _ (m : ℕ) (some : 0 < m) where
   found p zero k (x ∷ es) e h =
       let at : p ≡ k = omega arith in
       let l : length x ≡ 5 = grind (arith, nat_tests, (both (five x) (list_all five es) h).left) in
-      subst (λ k. edge_between (edges_from m p (x ∷ es)) (k / m) (k % m) ≡ x) at (here (is_absent x) p x es refl l)
+      subst (λ k. edge_between (edges_from m p (x ∷ es)) (k / m) (k % m) ≡ x) at (here (is_zero_entry x) p x es refl l)
   found p (suc n) k (x ∷ es) e h =
       let other : p ≢ k = λ q. omega arith in
       let next : p + 1 + n ≡ k = omega arith in
-      found_before (is_absent x) p k x (edges_from m (p + 1) es) other ∙ found (p + 1) n k es next (both (five x) (list_all five es) h).right
+      found_before (is_zero_entry x) p k x (edges_from m (p + 1) es) other ∙ found (p + 1) n k es next (both (five x) (list_all five es) h).right
 
   pub table_back : (table : List (List Ratio)) → length table ≡ m * m → list_all five table ≡ true → table_of m (edges_from m 0 table) ≡ table
   unfolding table_of

@@ -14,6 +14,7 @@ use Rattle.field_core.specs.declared.ratio.Ratio.{Ratio}
 use Rattle.case_model.specs.Draft.{is_short}
 use Rattle.case_model.specs.Names.{position_of}
 use Rattle.case_model.specs.ValidDraft.{Each, EachTwo}
+use Rattle.case_model.specs.Entries.{is_zero_entry}
 use Rattle.text_lines.specs.Spelling.{line_spelt, text_of, IsWord, IsLine, numbered}
 use Rattle.text_lines.specs.Lines.{rows_of, texts_in}
 use Rattle.text_lines.specs.Words.{words_behind, behind_words}
@@ -27,7 +28,7 @@ use Rattle.edge_text.specs.Document.{edge_line}
 use Rattle.edge_text.specs.Grammar.{Words}
 use Rattle.edge_text.specs.WordReading.{edge}
 use Rattle.edge_text.proofs.Leaves.{same_name, edge_said as edge_words_said}
-use Rattle.edge_text.specs.CanonicalText.{name_at, edge_words, is_absent, edge_lines, table_lines}
+use Rattle.edge_text.specs.CanonicalText.{name_at, edge_words, edge_lines, table_lines}
 use Rattle.edge_text.proofs.CanonicalDrafts.{edge_at, before, edges_from}
 use Rattle.edge_text.proofs.CanonicalWords.{is_high, high_word, entry_is_word, blank_entry}
 
@@ -171,7 +172,7 @@ module _ (names : List (List ℕ)) (words : Each names IsWord) (apart : AreDisti
   pub edges_lines : (p : ℕ) (table : List (List Ratio)) → p + length table ≤ m * m → AllByRecursion IsLine (table_lines names p table)
   unfolding edge_lines
   edges_lines p [] h = tt
-  edges_lines p (e ∷ es) h = all_append IsLine (edge_lines names p e) (table_lines names (p + 1) es) (by_test (is_absent e))
+  edges_lines p (e ∷ es) h = all_append IsLine (edge_lines names p e) (table_lines names (p + 1) es) (by_test (is_zero_entry e))
       (edges_lines (p + 1) es (omega arith))
     where
       by_test : (b : Bool) → AllByRecursion IsLine (if b then [] else edge_words names (p / m) (p % m) e ∷ [])
@@ -182,7 +183,7 @@ module _ (names : List (List ℕ)) (words : Each names IsWord) (apart : AreDisti
       → AllZip (λ line e. edge_line names line ≡ Some (Ok e)) (map line_spelt (table_lines names p table)) (edges_from m p table)
   unfolding edge_lines
   edges_said p [] h g = tt
-  edges_said p (e ∷ es) h g = by_test (is_absent e) g (λ k. edges_said (p + 1) es (omega arith) k)
+  edges_said p (e ∷ es) h g = by_test (is_zero_entry e) g (λ k. edges_said (p + 1) es (omega arith) k)
     where
       by_test : (b : Bool) → Each (before b (edge_at m p e) (edges_from m (p + 1) es)) (λ e. IsEntry e.entry)
           → (Each (edges_from m (p + 1) es) (λ e. IsEntry e.entry)

@@ -23,7 +23,7 @@ use Rattle.case_model.specs.declared.draft_stages.DraftStages.{DraftStages}
 use Rattle.case_model.specs.declared.inputs.Inputs.{Inputs}
 use Rattle.case_model.specs.declared.inputs.Inputs.TheVariants.{Bare, Single, Staged}
 use Rattle.case_model.specs.Draft.{has_ends, is_short_p_value, is_p_value, is_unit, ArePValues}
-use Rattle.case_model.specs.Entries.{no_edge, entry_at, entry_value}
+use Rattle.case_model.specs.Entries.{no_edge, entry_at, entry_value, is_zero_entry}
 use Rattle.case_model.specs.Content.{Content, content_of, edge_between, table_of, tabled, given, inputs_of, IfSingle, has_coefficients}
 use Rattle.case_model.specs.CaseFaults.{case_fault, written_row}
 use Rattle.case_model.specs.ValidDraft.{Each, EachTwo, SumsTo, CanSum, IsValidComponent, AreValidPlaces, IsValidDraft, HasWrittenSums}
@@ -33,8 +33,7 @@ use Rattle.case_model.proofs.Faultless.{length-table_of}
 use Rattle.case_model.proofs.DraftTests.{all_each, unit_of}
 use Rattle.case_model.proofs.DraftValidity.{valid_draft, written_sums, no_fault}
 use Rattle.case_model.proofs.ValidContents.{good_inputs}
-use Rattle.case_model.specs.Sums.{ratio_at}
-use Rattle.edge_text.specs.CanonicalText.{is_absent}
+use Rattle.case_model.proofs.ValidGraphs.{no_edge_zero}
 use Rattle.edge_text.proofs.CanonicalDrafts.{edge_at, before, edges_from, untabled, p_of, stages_in, draft_of, five, table_back}
 
 -- ---- items of lists
@@ -72,32 +71,28 @@ each_map f P xs h i y e = let r = mapped_from f xs i y e in subst P r.2 (h i r.0
 
 -- what holds of each edge of a table holds of those that aren't 0
 pub edges_each : (P : DraftEdge → Type 0) (m p : ℕ) (table : List (List Ratio))
-    → ((n q : ℕ) → p + n ≡ q → n < length table → is_absent (get_or table n no_edge) ≡ false
+    → ((n q : ℕ) → p + n ≡ q → n < length table → is_zero_entry (get_or table n no_edge) ≡ false
     → P (edge_at m q (get_or table n no_edge))) → Each (edges_from m p table) P
 edges_each P m p [] h = λ i x e. absurd (no_item i x e)
-edges_each P m p (e ∷ es) h = by_test (is_absent e) refl (edges_each P m (p + 1) es (λ n q s l a. h (suc n) q (omega arith) (omega arith) a))
+edges_each P m p (e ∷ es) h = by_test (is_zero_entry e) refl (edges_each P m (p + 1) es (λ n q s l a. h (suc n) q (omega arith) (omega arith) a))
   where
-    by_test : (b : Bool) → is_absent e ≡ b → Each (edges_from m (p + 1) es) P → Each (before b (edge_at m p e) (edges_from m (p + 1) es)) P
+    by_test : (b : Bool) → is_zero_entry e ≡ b → Each (edges_from m (p + 1) es) P → Each (before b (edge_at m p e) (edges_from m (p + 1) es)) P
     by_test true t rest = rest
     by_test false t rest = each_cons P (edge_at m p e) (edges_from m (p + 1) es) (h 0 p (omega arith) (omega arith) t) rest
-
-nothing_absent : is_absent no_edge ≡ true
-unfolding is_absent ratio_at
-nothing_absent = refl
 
 -- an edge of a table that isn't 0 is one of the list from which it was made
 pub record IsListed (es : List DraftEdge) (e : DraftEdge) : Type 0 where
   pub place : ℕ
   pub there : slice_get es place ≡ Some e
 
-listed : (i j : ℕ) (es : List DraftEdge) → is_absent (edge_between es i j) ≡ false
+listed : (i j : ℕ) (es : List DraftEdge) → is_zero_entry (edge_between es i j) ≡ false
     → IsListed es (record { from = i; to = j; entry = edge_between es i j })
 unfolding edge_between
-listed i j [] h = let q : true ≡ false = sym nothing_absent ∙ h in absurd (cc)
+listed i j [] h = let q : true ≡ false = sym no_edge_zero ∙ h in absurd (cc)
 listed i j (e ∷ es) h = by_test (has_ends i j e) refl h (λ a. listed i j es a)
   where
-    by_test : (b : Bool) → has_ends i j e ≡ b → is_absent (option_map_or (λ e. e.entry) (if b then Some e else find (has_ends i j) es) no_edge) ≡ false
-        → (is_absent (edge_between es i j) ≡ false → IsListed es (record { from = i; to = j; entry = edge_between es i j }))
+    by_test : (b : Bool) → has_ends i j e ≡ b → is_zero_entry (option_map_or (λ e. e.entry) (if b then Some e else find (has_ends i j) es) no_edge) ≡ false
+        → (is_zero_entry (edge_between es i j) ≡ false → IsListed es (record { from = i; to = j; entry = edge_between es i j }))
         → IsListed (e ∷ es) (record { from = i; to = j; entry = option_map_or (λ e. e.entry) (if b then Some e else find (has_ends i j) es) no_edge })
     by_test true t a later =
         let w = both (e.from == i) (e.to == j) t in
@@ -114,12 +109,12 @@ table_at m es q h = get_or-map-range_with_len (λ k. edge_between es (k / m) (k 
 kept_each : (P : DraftEdge → Type 0) (m : ℕ) (es : List DraftEdge) → Each es P → Each (edges_from m 0 (table_of m es)) P
 kept_each P m es h = edges_each P m 0 (table_of m es) here
   where
-    here : (n q : ℕ) → 0 + n ≡ q → n < length (table_of m es) → is_absent (get_or (table_of m es) n no_edge) ≡ false
+    here : (n q : ℕ) → 0 + n ≡ q → n < length (table_of m es) → is_zero_entry (get_or (table_of m es) n no_edge) ≡ false
         → P (edge_at m q (get_or (table_of m es) n no_edge))
     here n q s l a =
         let w : n < m * m = omega (arith, length-table_of m es) in
         let e = table_at m es n w in
-        let r = listed (n / m) (n % m) es (ap is_absent (sym e) ∙ a) in
+        let r = listed (n / m) (n % m) es (ap is_zero_entry (sym e) ∙ a) in
         let there : P (edge_at m n (edge_between es (n / m) (n % m))) = h r.place (edge_at m n (edge_between es (n / m) (n % m))) r.there in
         let same : n ≡ q = omega arith in
         subst (λ k. P (edge_at m k (get_or (table_of m es) n no_edge))) same (subst (λ x. P (edge_at m n x)) (sym e) there)
@@ -136,7 +131,7 @@ apart m some p q l e =
 
 once_each : (m p : ℕ) (table : List (List Ratio)) → 0 < m → EachTwo (edges_from m p table) AreApart
 once_each m p [] some = λ i j x y l e f. absurd (no_item i x e)
-once_each m p (e ∷ es) some = by_test (is_absent e) (once_each m (p + 1) es some)
+once_each m p (e ∷ es) some = by_test (is_zero_entry e) (once_each m (p + 1) es some)
   where
     by_test : (b : Bool) → EachTwo (edges_from m (p + 1) es) AreApart → EachTwo (before b (edge_at m p e) (edges_from m (p + 1) es)) AreApart
     by_test true rest = rest

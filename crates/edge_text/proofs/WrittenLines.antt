@@ -12,9 +12,10 @@ use Rattle.case_model.specs.Draft.{arrives_among, is_p_value, is_stage}
 use Rattle.case_model.specs.declared.component.Component.{Component}
 use Rattle.case_model.specs.Content.{Content, is_arrival}
 use Rattle.case_model.proofs.Holding.{both}
+use Rattle.case_model.specs.Entries.{is_zero_entry}
 use Rattle.text_lines.specs.Spelling.{text_of}
 use Rattle.edge_text.specs.Grammar.{Words}
-use Rattle.edge_text.specs.CanonicalText.{alpha_words, names_words, share_words, weights_words, edge_words, is_absent, edge_lines, table_lines, share_lines}
+use Rattle.edge_text.specs.CanonicalText.{alpha_words, names_words, share_words, weights_words, edge_words, edge_lines, table_lines, share_lines}
 use Rattle.edge_text.specs.CanonicalText.{block_lines, blocks_lines, spend_lines, spends_lines, p_lines, late_lines, canonical_lines, canonical_text}
 use Rattle.edge_text.specs.View.{line_of}
 
@@ -110,13 +111,13 @@ three start text new a b c e n = n ∙ ap (λ t. t ++ c) e ∙ append_assoc (sta
 pub nothing : (text : List ℕ) → text ≡ text ++ text_of []
 nothing text = sym (append-nil text) ∙ ap (λ t. text ++ t) (sym text_none)
 
-pub edge_none : (names : List (List ℕ)) (place : ℕ) (entry : List Ratio) (text : List ℕ) → is_absent entry ≡ true
+pub edge_none : (names : List (List ℕ)) (place : ℕ) (entry : List Ratio) (text : List ℕ) → is_zero_entry entry ≡ true
     → text ≡ text ++ text_of (edge_lines names place entry)
 unfolding edge_lines
 edge_none names place entry text e =
     nothing text ∙ ap (λ b. text ++ text_of (if b then [] else edge_words names (place / length names) (place % length names) entry ∷ [])) (sym e)
 
-pub edge_some : (names : List (List ℕ)) (place : ℕ) (entry : List Ratio) → is_absent entry ≡ false
+pub edge_some : (names : List (List ℕ)) (place : ℕ) (entry : List Ratio) → is_zero_entry entry ≡ false
     → line_of (edge_words names (place / length names) (place % length names) entry) ≡ text_of (edge_lines names place entry)
 unfolding edge_lines
 edge_some names place entry e =

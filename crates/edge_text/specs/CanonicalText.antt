@@ -1,12 +1,11 @@
 -- The canonical text of a case: one spelling for each case.
-use Rattle.std.specs.Prelude.{ℕ, ◌+◌, ◌/◌, ◌%◌, ◌==◌, ◌&&◌, Bool, List, [], ◌∷◌, ◌++◌, map, length, get_or, codes}
+use Rattle.std.specs.Prelude.{ℕ, ◌+◌, ◌/◌, ◌%◌, Bool, List, [], ◌∷◌, ◌++◌, map, length, get_or, codes}
 use Rattle.std.specs.Prelude.{if◌then◌else◌}
 use Rattle.std.specs.Fmt.{decimal}
-use Rattle.std.specs.List.{flat_map, list_all}
+use Rattle.std.specs.List.{flat_map}
 use Rattle.field_core.specs.declared.ratio.Ratio.{Ratio}
 use Rattle.field_core.specs.View.{terms}
 use Rattle.fraction.specs.Spelling.{spelling}
-use Rattle.fraction.specs.Tests.{is_zero, is_one}
 use Rattle.case_model.specs.declared.component.Component.{Component}
 use Rattle.case_model.specs.declared.draft_stages.Arrival.{Arrival}
 use Rattle.case_model.specs.declared.inputs.Inputs.{Inputs}
@@ -15,8 +14,8 @@ use Rattle.case_model.specs.declared.inputs.Stages.{Stages}
 use Rattle.case_model.specs.declared.spend.Spend.{Spend}
 use Rattle.case_model.specs.declared.spend.Spend.TheVariants.{Shares, Table}
 use Rattle.case_model.specs.declared.spend_step.SpendStep.{SpendStep}
-use Rattle.case_model.specs.Content.{Content}
-use Rattle.case_model.specs.Sums.{ratio_at}
+use Rattle.case_model.specs.Content.{Content, is_alone}
+use Rattle.case_model.specs.Entries.{is_zero_entry}
 use Rattle.edge_expression.specs.EntryTexts.{entry_text}
 use Rattle.text_lines.specs.Spelling.{text_of}
 use Rattle.edge_text.specs.Grammar.{Words}
@@ -73,26 +72,14 @@ arrive_words names a = codes "arrive" ∷ name_at names a.hypothesis ∷ decimal
 
 -- ---- the lines of a case, each by its words
 
--- the coefficient of a power of epsilon is 0
-abbrev pub is_zero_at : List Ratio → ℕ → Bool
-is_zero_at entry power = is_zero (terms (ratio_at entry power))
-
--- each coefficient of an edge is 0
-unfoldable pub is_absent : List Ratio → Bool
-is_absent entry = is_zero_at entry 0 && is_zero_at entry 1 && is_zero_at entry 2 && is_zero_at entry 3 && is_zero_at entry 4
-
 -- the edge at a place of a table, row by row: place `i * m + j` of `m` rows and columns has the edge from `i` to `j`; nothing if it is 0
 unfoldable pub edge_lines : List (List ℕ) → ℕ → List Ratio → List Words
-edge_lines names place entry = if is_absent entry then [] else edge_words names (place / length names) (place % length names) entry ∷ []
+edge_lines names place entry = if is_zero_entry entry then [] else edge_words names (place / length names) (place % length names) entry ∷ []
 
 -- the edges of a table that aren't 0, in its order, so by ascending first and then second end; the first entry has this place
 abbrev pub table_lines : List (List ℕ) → ℕ → List (List Ratio) → List Words
 table_lines names place [] = []
 table_lines names place (entry ∷ entries) = edge_lines names place entry ++ table_lines names (place + 1) entries
-
--- there is one component, and its share is 1
-unfoldable pub is_alone : List Component → Bool
-is_alone ks = length ks == 1 && list_all (λ k. is_one (terms k.share)) ks
 
 -- the share of a component, which isn't written of one that is alone
 abbrev pub share_lines : Bool → Ratio → List Words

@@ -43,4 +43,4 @@ pub use edge_expression::{ExprFault, print_entry};
 pub use entries::read_entry;
 pub use fault::{LineKind, TextFault};
 pub use text_reader::read_text;
-pub use write::{is_absent, is_alone, write_text};
+pub use write::write_text;

@@ -10,11 +10,8 @@ ghost use Rattle.edge_text.specs.CanonicalText.{
   share_words,
   weights_words,
   edge_words,
-  is_zero_at,
-  is_absent,
   edge_lines,
   table_lines,
-  is_alone,
   share_lines,
   block_lines,
   blocks_lines,
@@ -88,26 +85,6 @@ fn put_weights(text: &mut List<u8>, weights: &[Fraction]) -> Result<(), NoMemory
     text.push(b'\n')
 }
 
-/// Whether the coefficient of a power of epsilon is 0.
-fn is_zero_at(entry: &Entry, power: usize) -> bool
-    requires { power ≤ 4 }
-    ensures { result ≡ is_zero_at entry.now power }
-{
-    entry.coefficient(power).is_zero()
-}
-
-/// Whether each coefficient of an edge is 0.
-#[tactic(auto, unfolding(crate::specs::CanonicalText::is_absent))]
-pub fn is_absent(entry: &Entry) -> bool
-    ensures { result ≡ is_absent entry.now }
-{
-    is_zero_at(entry, 0)
-        && is_zero_at(entry, 1)
-        && is_zero_at(entry, 2)
-        && is_zero_at(entry, 3)
-        && is_zero_at(entry, 4)
-}
-
 /// Appends an edge between two hypotheses.
 fn put_edge(
     text: &mut List<u8>,
@@ -139,7 +116,7 @@ fn put_edge_if_any(
     requires { place < length names.now * length names.now }
     ensures { OnOk result (text.new ≡ text.old ++ text_of (edge_lines names.now place entry.now)) }
 {
-    if is_absent(entry) {
+    if entry.is_zero() {
         return Ok(());
     }
     put_edge(text, names, place / names.len(), place % names.len(), entry)
@@ -173,20 +150,12 @@ fn put_block(
     put_edges(text, case.names(), case.edges(component))
 }
 
-/// Whether there is one component, and its share is 1.
-#[tactic(auto, unfolding(crate::specs::CanonicalText::is_alone))]
-pub fn is_alone(case: &Case) -> bool
-    ensures { result ≡ is_alone (content case.now).components }
-{
-    case.components() == 1 && case.share(0).is_one()
-}
-
 /// Appends the components.
 #[tactic(auto, unfolding(crate::specs::CanonicalText::blocks_lines))]
 fn put_blocks(text: &mut List<u8>, case: &Case) -> Result<(), NoMemory>
     ensures { OnOk result (text.new ≡ text.old ++ text_of (blocks_lines (content case.now).names (content case.now).components)) }
 {
-    let alone = is_alone(case);
+    let alone = case.is_alone();
     for component in 0..case.components() {
         put_block(text, case, alone, component)?;
     }

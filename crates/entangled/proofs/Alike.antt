@@ -1,16 +1,13 @@
 -- Nets over one set of hypotheses.
-use Rattle.std.proofs.Common.{◌≡◌, refl, sym, ap, subst, ◌∙◌, ℕ, ◌<◌, List, [], ◌∷◌, length, map, get_or, true}
+use Rattle.std.proofs.Common.{◌≡◌, refl, sym, ap, ◌∙◌, ℕ, ◌<◌, List, [], ◌∷◌, length, map, get_or, true}
 use Rattle.std.proofs.Common.{Bool, arith}
-use Rattle.std.proofs.lemmas.List.{get_or-map, length-map}
+use Rattle.std.proofs.lemmas.List.{length-map}
 use Rattle.std.proofs.lemmas.List.Elements.{All-head}
 use Rattle.std.specs.List.{All}
 use Rattle.case_model.proofs.Places.{mapped_item}
 use Rattle.removal.specs.StoredGraph.{StoredGraph, size as graph_size, is_live, AreAllLive}
 use Rattle.entangled.specs.Bundled.{states_size, is_live_by, AreAlike}
-
--- what holds of all items of a mapped list holds of what is mapped
-pub all_from_map : {A B : Type 0} (P : B → Type 0) (f : A → B) (xs : List A) → All P (map f xs) → All (λ x. P (f x)) xs
-all_from_map P f xs h n d b = subst P (get_or-map f xs n d (f d) b) (h n (f d) (simp length-map b))
+use Rattle.case_model.proofs.Holding.{all_from_map}
 
 module _ {S : Type 0} (graph : S → StoredGraph) where
   -- where each hypothesis is in, this one is in each net

@@ -1,5 +1,5 @@
 -- What the code makes of a written run, as long as memory lasts.
-use Rattle.std.specs.Prelude.{◌≡◌, ℕ, map, Result, Ok, Err}
+use Rattle.std.specs.Prelude.{◌≡◌, map, Result, Ok, Err}
 use Rattle.sequential.specs.declared.fault.RunFault.{RunFault}
 use Rattle.sequential.specs.declared.fault.RunFault.TheVariants.{Wide as MakeWide, NoMemory as MakeNoMemory}
 use Rattle.field_core.specs.Kind.{Parts}

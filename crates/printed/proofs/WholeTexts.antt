@@ -1,17 +1,16 @@
 -- What texts and sheets say has edges with a coefficient for each power.
 use Rattle.std.proofs.Common.{◌≡◌, refl, sym, ap, ap₂, ◌∙◌, ℕ, ◌+◌, ◌==◌, ◌&&◌, Bool, true, false, cond}
-use Rattle.std.proofs.Common.{List, [], ◌∷◌, ◌++◌, drop, length, Ok}
+use Rattle.std.proofs.Common.{List, [], ◌∷◌, drop, length, Ok}
 use Rattle.std.specs.List.{list_all}
 use Rattle.field_core.proofs.Results.{came_from, same_value, value_told}
 use Rattle.field_core.specs.declared.ratio.Ratio.{Ratio}
 use Rattle.case_model.specs.declared.draft.Draft.{Draft}
-use Rattle.case_model.specs.Entries.{is_whole_entry}
-use Rattle.case_model.proofs.Holding.{both}
+use Rattle.case_model.specs.Entries.{is_whole_entry, is_zero_entry}
+use Rattle.case_model.proofs.Holding.{both, all_append}
 use Rattle.case_csv.specs.Answers.{at}
 use Rattle.case_csv.specs.Table.{Cells, RowSaid, SheetSaid, edge_of, start_of, entries_of, row_of, rows_of, header_of, sheet_of, edge_at, row_edges}
 use Rattle.case_csv.specs.Table.{table_edges, draft_of, IsTable}
 use Rattle.case_csv.specs.declared.fault.RowKind.TheVariants.{Expr}
-use Rattle.edge_text.specs.CanonicalText.{is_absent}
 use Rattle.edge_text.specs.Document.{IsText}
 use Rattle.edge_text.proofs.Texts.{edges_pass, text_edges}
 use Rattle.entries.specs.Entries.{entry_of}
@@ -67,12 +66,6 @@ sheet_whole (header ∷ records) said e =
     ap (λ (s : SheetSaid). list_all whole_row s.rows) (sym (same_value (record { names = names.0; rows = rows.0 }) said rows.2))
     ∙ rows_whole (length header) 2 names.0 records rows.0 rows.1
 
-all_both : {A : Type 0} (test : A → Bool) (xs ys : List A) → list_all test xs ≡ true → list_all test ys ≡ true → list_all test (xs ++ ys) ≡ true
-all_both test [] ys h k = k
-all_both test (x ∷ xs) ys h k =
-    let b = both (test x) (list_all test xs) h in
-    ap₂ (λ x y. x && y) b.left (all_both test xs ys b.right k)
-
 edge_whole : (t : Bool) (from to : ℕ) (entry : List Ratio) → is_whole_entry entry ≡ true
     → list_all whole_edge (cond t [] (record { from = from; to = to; entry = entry } ∷ [])) ≡ true
 edge_whole true from to entry h = refl
@@ -83,14 +76,14 @@ row_edges_whole : (from to : ℕ) (entries : List (List Ratio)) → list_all is_
 row_edges_whole from to [] h = refl
 row_edges_whole from to (entry ∷ entries) h =
     let b = both (is_whole_entry entry) (list_all is_whole_entry entries) h in
-    all_both whole_edge (edge_at from to entry) (row_edges from (to + 1) entries) (edge_whole ((from == to) && is_absent entry) from to entry b.left)
+    all_append whole_edge (edge_at from to entry) (row_edges from (to + 1) entries) (edge_whole ((from == to) && is_zero_entry entry) from to entry b.left)
     (row_edges_whole from (to + 1) entries b.right)
 
 table_edges_whole : (from : ℕ) (rows : List RowSaid) → list_all whole_row rows ≡ true → list_all whole_edge (table_edges from rows) ≡ true
 table_edges_whole from [] h = refl
 table_edges_whole from (row ∷ rows) h =
     let b = both (whole_row row) (list_all whole_row rows) h in
-    all_both whole_edge (row_edges from 0 row.entries) (table_edges (from + 1) rows) (row_edges_whole from 0 row.entries b.left)
+    all_append whole_edge (row_edges from 0 row.entries) (table_edges (from + 1) rows) (row_edges_whole from 0 row.entries b.left)
     (table_edges_whole (from + 1) rows b.right)
 
 pub sheet_draft_whole : (records : List Cells) (alpha : Ratio) (d : Draft) → IsTable records alpha d → IsWhole d

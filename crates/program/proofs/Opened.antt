@@ -1,6 +1,5 @@
 -- What is known of what was opened, and of what was done over it.
 use Rattle.std.proofs.Common.{◌≡◌, ◌≤◌, ◌<◌, ◌+◌, ℕ, List, ap, subst, ◌∙◌}
-use Rattle.std.specs.declared.option.Option.{Option}
 use Rattle.graph_io.specs.declared.reading.Source.{Ghosts as SourceGhosts}
 use Rattle.answers.specs.Devices.{Reading, Writing, Keeping, reading}
 use Rattle.answers.specs.Runs.{Runs, Uses, IsConcluded}

@@ -2,9 +2,9 @@ use Rattle.std.proofs.Common.{◌≡◌, map, rules, arith}
 use Rattle.removal.specs.StoredGraph.{size as graph_size}
 use Rattle.entangled.specs.Bundled.{states_size}
 use Rattle.entangled.specs.BundleView.{bundled}
-use Rattle.entangled.proofs.Alike.{all_from_map}
 use Rattle.entangled.proofs.LevelValues.{stored_count}
 use Rattle.entangled.proofs.bundle.Bundle.set_to.Goals as goal
+use Rattle.case_model.proofs.Holding.{all_from_map}
 
 pub set_all-requires-clause-size : goal.set_all-requires-clause-size
 unfolding bundled
