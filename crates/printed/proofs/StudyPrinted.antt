@@ -18,14 +18,14 @@ use Rattle.refusals.specs.declared.wide.When.TheVariants.{Look as AfterLook}
 use Rattle.report.specs.StudyReport.{Reply, taken, shown, is_among}
 use Rattle.staged_levels.specs.declared.event.Settled.{Settled}
 use Rattle.staged_levels.specs.Studies.{StudyState, positions_of}
-use Rattle.study_answers.proofs.Answering.{records_counted}
-use Rattle.study_answers.proofs.KeptLooks.{replies_decide}
-use Rattle.study_answers.specs.Replies.{taken_in, looks_taken, IsReply, AreReplies}
-use Rattle.study_answers.specs.StudyStages.{StudyEnd, IsBrokenOff, study_stage}
+use Rattle.study_cli.proofs.Answering.{records_counted}
+use Rattle.study_cli.proofs.KeptLooks.{replies_decide}
+use Rattle.study_cli.specs.Replies.{taken_in, looks_taken, IsReply, AreReplies}
+use Rattle.study_cli.specs.StudyStages.{StudyEnd, IsBrokenOff, study_stage}
 use Rattle.study_cli.specs.StudyOutcome.{study_call}
-use Rattle.study_answers.specs.CommandLines.{AreCommands}
-use Rattle.study_answers.specs.declared.command.StudyCommand.{StudyCommand}
-use Rattle.study_answers.specs.declared.command.StudyCommand.TheVariants.{Take, Show}
+use Rattle.study_cli.specs.CommandLines.{AreCommands}
+use Rattle.study_cli.specs.declared.command.StudyCommand.{StudyCommand}
+use Rattle.study_cli.specs.declared.command.StudyCommand.TheVariants.{Take, Show}
 use Rattle.study_register.specs.Looking.{arrivals_of, AreTaken}
 use Rattle.graph_cli.proofs.ClosedReports.{known_arrivals, faultless_content, not_done}
 use Rattle.graph_cli.proofs.StagedReports.{or_again}

@@ -8,11 +8,11 @@ use Rattle.command_words.specs.Asked.{StudyAsked}
 use Rattle.report.specs.StudyReport.{Reply, taken, shown, is_among, study_report}
 use Rattle.staged_levels.specs.declared.event.Settled.{Settled}
 use Rattle.staged_levels.specs.Studies.{StudyState}
-use Rattle.study_answers.specs.Replies.{looks_taken, AreReplies}
-use Rattle.study_answers.specs.StudyStages.{StudyEnd}
+use Rattle.study_cli.specs.Replies.{looks_taken, AreReplies}
+use Rattle.study_cli.specs.StudyStages.{StudyEnd}
 use Rattle.study_cli.specs.StudyOutcome.{study_outcome}
-use Rattle.study_answers.specs.CommandLines.{AreCommands}
-use Rattle.study_answers.specs.declared.command.StudyCommand.{StudyCommand}
+use Rattle.study_cli.specs.CommandLines.{AreCommands}
+use Rattle.study_cli.specs.declared.command.StudyCommand.{StudyCommand}
 use Rattle.study_register.specs.Looking.{arrivals_of, AreTaken}
 use Rattle.graph_cli.specs.Laws.{ReportsCase}
 use Rattle.graph_cli.specs.Outcome.{AskStudy}

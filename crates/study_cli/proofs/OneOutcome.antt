@@ -13,9 +13,9 @@ use Rattle.text_lines.specs.Languages.{FaultAt}
 use Rattle.graph_cli.proofs.AcceptedCases.{accepted_decided}
 use Rattle.refusals.specs.TextRefusal.{commands_refusal}
 use Rattle.refusals.specs.UsageRefusal.{usage}
-use Rattle.study_answers.proofs.OneEnd.{studies_have_one_end}
-use Rattle.study_cli.specs.StudyLaws.{StudiesHaveOneOutcome}
+use Rattle.study_cli.proofs.OneEnd.{studies_have_one_end}
 use Rattle.study_cli.specs.StudyOutcome.{study_needs, commands_in, study_call}
+use Rattle.study_cli.specs.StudyStatements.{StudiesHaveOneOutcome}
 
 commands_decided : (c : Content) (bytes : List ℕ) → IsDecided (commands_in c bytes)
 commands_decided c bytes = record {
