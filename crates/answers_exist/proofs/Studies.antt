@@ -145,12 +145,12 @@ said_in : (c : Content) (source : Option (List ℕ)) (list : List StudyCommand) 
     → AllByRecursion (IsBelow (length c.names)) list
 said_in c source list g = commands_below c g.0 list g.2
 
-call_ends : (asked : StudyAsked) (case commands : Option (List ℕ)) (kept : Option (List Look)) → HasLevel asked.form
+call_ends : (asked : StudyAsked) (case commands : Option (List ℕ)) (kept : Option (List Look)) → HasLevel asked.format
     → Ends (study_call asked case commands kept)
 unfolding study_call
 call_ends asked case commands kept l =
-    then_ends (case_of asked case) _ (accepted_ends asked.form study_needs case l)
-    (λ c g. let T = accepted_taken asked.form study_needs case c g in
+    then_ends (case_of asked case) _ (accepted_ends asked.format study_needs case l)
+    (λ c g. let T = accepted_taken asked.format study_needs case c g in
     then_ends (commands_from c commands) _
     (then_ends (on_bytes commands (within (codes "commands "))) (commands_in c)
     (bytes_end commands (within (codes "commands ")) (λ bytes. within_ends (codes "commands ") bytes)) (λ bytes h. commands_end c bytes))

@@ -47,4 +47,4 @@ pub record ReportsStudy (c : Content) (commands : List ℕ) (kept more : List Lo
 abbrev pub StudiesAreOfTheStagedTest : Type 0
 StudiesAreOfTheStagedTest = (words : List (List ℕ)) (asked : StudyAsked) (case commands : List ℕ) (kept : List Look) (e : StudyEnd)
     → AskStudy words asked → (study_outcome words (Some case) (Some commands) (Some kept)).Gives e → e.answer.status ≡ Done
-    → ReportsCase (λ c. ReportsStudy c commands kept e.looks) asked.form case e.answer.text
+    → ReportsCase (λ c. ReportsStudy c commands kept e.looks) asked.format case e.answer.text

@@ -28,7 +28,7 @@ commands_decided c bytes = record {
 call_decided : (asked : StudyAsked) (case commands : List ℕ) (looks : List Look) → IsDecided (study_call asked (Some case) (Some commands) (Some looks))
 unfolding study_call
 call_decided asked case commands looks =
-    then_decided _ _ (accepted_decided asked.form study_needs case)
+    then_decided _ _ (accepted_decided asked.format study_needs case)
     (λ c. then_decided _ _ (then_decided _ _ (within_decided _ commands) (commands_decided c)) (λ list. studies_have_one_end c list looks))
 
 pub studies_have_one_outcome : StudiesHaveOneOutcome

@@ -40,7 +40,7 @@ commands_in c bytes = record {
 
 -- the case that a study asks for, if it can take it
 abbrev pub case_of : StudyAsked → Option (List ℕ) → Stage Refusal Content
-case_of asked case = accepted asked.form study_needs case
+case_of asked case = accepted asked.format study_needs case
 
 -- the commands that a source says for a case
 abbrev pub commands_from : Content → Option (List ℕ) → Stage Refusal (List StudyCommand)

@@ -83,7 +83,7 @@ fn study_call<S: Source, T: Source, K: Keeper>(
     ensures turns { IsCalledWithin (study_asked call.now) (S.left case.old) (T.left commands.old)
         (K.calls keeper.old) (K.calls keeper.new) }
 {
-    let accepted = accepted_case(alloc, &call.form, study_needs(), case)?;
+    let accepted = accepted_case(alloc, &call.format, study_needs(), case)?;
     let bytes = take_whole(alloc, b"commands ", commands)?;
     let list = commands_in(alloc, &accepted, bytes.as_slice())?;
     study_answer(alloc, &accepted, keeper, list.as_slice())
