@@ -67,7 +67,7 @@ json_ends bytes = elim (true_or_false (is_utf8 bytes)) [
   ]
 ]
 
-grammar_ends : (form : Written) (bytes : List ℕ) → HasLevel form → Ends (grammar form bytes)
+grammar_ends : (format : Written) (bytes : List ℕ) → HasLevel format → Ends (grammar format bytes)
 grammar_ends text bytes l = elim (says_or_fails bytes) [
   | inl d ↦ inl (d.0, d.1)
   | inr f ↦ inr (line_refusal f.0 f.1, (f.0, f.1, f.2, refl))
@@ -111,11 +111,11 @@ size_ends most c = elim (below_or_above most (length c.names)) [
 suitable_ends : (needs : Needs) (c : Content) → Ends (suitable needs c)
 suitable_ends needs c = then_ends (of_kind needs.kind c) (of_size needs.most) (kind_ends needs.kind c) (λ x g. size_ends needs.most x)
 
--- a source in a form denotes a case that a command with these needs can take, or is refused
-pub accepted_ends : (form : Written) (needs : Needs) (left : Option (List ℕ)) → HasLevel form → Ends (accepted form needs left)
-accepted_ends form needs left l =
+-- a source in a format denotes a case that a command with these needs can take, or is refused
+pub accepted_ends : (format : Written) (needs : Needs) (left : Option (List ℕ)) → HasLevel format → Ends (accepted format needs left)
+accepted_ends format needs left l =
     then_ends (on_bytes left (within [])) _ (bytes_end left (within []) (λ bytes. within_ends [] bytes))
-    (λ bytes g. then_ends (case_in form bytes) _ (then_ends (grammar form bytes) faultless (grammar_ends form bytes l) (λ d h. faultless_ends d))
+    (λ bytes g. then_ends (case_in format bytes) _ (then_ends (grammar format bytes) faultless (grammar_ends format bytes l) (λ d h. faultless_ends d))
     (λ c h. told_ends (line_of c.names) (suitable needs c) (suitable_ends needs c)))
 
 -- ---- what is taken
@@ -125,11 +125,11 @@ pub record IsTaken (kind : InputKind) (c : Content) : Type 0 where
   pub valid : IsValidContent c
   pub of_kind : IsOfKind kind c.inputs
 
-pub accepted_taken : (form : Written) (needs : Needs) (left : Option (List ℕ)) (c : Content) → (accepted form needs left).Gives c → IsTaken needs.kind c
-accepted_taken form needs left c g =
+pub accepted_taken : (format : Written) (needs : Needs) (left : Option (List ℕ)) (c : Content) → (accepted format needs left).Gives c → IsTaken needs.kind c
+accepted_taken format needs left c g =
     let draft = g.2.1.0 in
-    let read : (c : Content) → (case_in form g.0).Gives c → IsValidContent c =
-    λ c h. subst IsValidContent (sym h.2.1) (faultless_content h.0 h.2.0 (known_arrivals form g.0 h.0 h.1)) in
+    let read : (c : Content) → (case_in format g.0).Gives c → IsValidContent c =
+    λ c h. subst IsValidContent (sym h.2.1) (faultless_content h.0 h.2.0 (known_arrivals format g.0 h.0 h.1)) in
     let fits = g.2.2 in
     record {
       valid = subst IsValidContent (sym (fits.2.1 ∙ fits.1.1)) (read g.2.0 g.2.1);

@@ -16,8 +16,8 @@ use Rattle.command_words.specs.Asked.{Written, Asked, on_case as task_on_case, c
 use Rattle.command_words.specs.Words.{asked_in, stage_of}
 use Rattle.command_words.specs.declared.command.CaseTask.{CaseTask}
 use Rattle.command_words.specs.declared.command.CaseTask.TheVariants as tasks
-use Rattle.command_words.specs.declared.form.Form.{Form}
-use Rattle.command_words.specs.declared.form.Form.TheVariants as forms
+use Rattle.command_words.specs.declared.format.Format.{Format}
+use Rattle.command_words.specs.declared.format.Format.TheVariants as formats
 use Rattle.command_words.specs.declared.graph_name.SizedGraph.{SizedGraph}
 use Rattle.command_words.specs.declared.graph_name.SizedGraph.TheVariants.{Holm, FixedSequence, Fallback, Parallel, ImprovedParallel}
 use Rattle.edge_text.specs.CanonicalText.{canonical_text}
@@ -56,14 +56,14 @@ result_ends r = value_or_fault r
 
 -- ---- canonical documents
 
-canon_ends : (form : Form) (c : Content) → Ends (canon_stage form c)
+canon_ends : (format : Format) (c : Content) → Ends (canon_stage format c)
 unfolding canon_stage sheet_stage
-canon_ends forms.Text c = only_ends (done (canonical_text c))
-canon_ends forms.Csv c = elim (true_or_false (fits_sheet c)) [
+canon_ends formats.Text c = only_ends (done (canonical_text c))
+canon_ends formats.Csv c = elim (true_or_false (fits_sheet c)) [
   | inl t ↦ inl (done (sheet_text c), (t, refl))
   | inr f ↦ inr (troubles.Kind, (f, refl))
 ]
-canon_ends forms.Json c = only_ends (done (json_text c))
+canon_ends formats.Json c = only_ends (done (json_text c))
 
 -- ---- named graphs
 
@@ -113,18 +113,18 @@ task_ends tasks.Bounds c T = let s = single_of c.inputs T.of_kind in bounds_ends
 task_ends tasks.Simes c T = let s = single_of c.inputs T.of_kind in simes_ends c T.valid s.0 s.1
 task_ends (tasks.Evidence priority) c T = let s = single_of c.inputs T.of_kind in evidence_ends c T.valid s.0 s.1 priority
 task_ends tasks.Stages c T = stages_ends c T.valid
-task_ends (tasks.Canon form) c T = canon_ends form c
+task_ends (tasks.Canon format) c T = canon_ends format c
 
-case_ends : (form : Written) (task : CaseTask) (case : Option (List ℕ)) → HasLevel form → Ends (case_call form task case)
+case_ends : (format : Written) (task : CaseTask) (case : Option (List ℕ)) → HasLevel format → Ends (case_call format task case)
 unfolding case_call
-case_ends form task case l =
-    then_ends (accepted form (needs_of task) case) _ (accepted_ends form (needs_of task) case l)
-    (λ c g. told_ends (line_of c.names) (on_case task c) (task_ends task c (accepted_taken form (needs_of task) case c g)))
+case_ends format task case l =
+    then_ends (accepted format (needs_of task) case) _ (accepted_ends format (needs_of task) case l)
+    (λ c g. told_ends (line_of c.names) (on_case task c) (task_ends task c (accepted_taken format (needs_of task) case c g)))
 
-check_call_ends : (form : Written) (case proof : Option (List ℕ)) → HasLevel form → Ends (check_call form case proof)
+check_call_ends : (format : Written) (case proof : Option (List ℕ)) → HasLevel format → Ends (check_call format case proof)
 unfolding check_call
-check_call_ends form case proof l =
-    then_ends (accepted form check_needs case) _ (accepted_ends form check_needs case l)
+check_call_ends format case proof l =
+    then_ends (accepted format check_needs case) _ (accepted_ends format check_needs case l)
     (λ c g. then_ends (on_bytes proof (within (codes "proof "))) _ (bytes_end proof (within (codes "proof ")) (λ bytes. within_ends (codes "proof ") bytes))
     (λ bytes h. told_ends (line_of c.names) (check_stage c bytes) (check_ends c bytes)))
 
@@ -132,9 +132,9 @@ check_call_ends form case proof l =
 
 call_ends : (command : Asked) (case proof : Option (List ℕ)) → AsksLevel command → Ends (call_of command case proof)
 unfolding call_of help_stage
-call_ends (task_on_case form task) case proof l = case_ends form task case (l form refl)
+call_ends (task_on_case format task) case proof l = case_ends format task case (l format refl)
 call_ends (catalogue graph) case proof l = catalogue_ends graph
-call_ends (check form file) case proof l = check_call_ends form case proof (l form refl)
+call_ends (check format file) case proof l = check_call_ends format case proof (l format refl)
 call_ends (sample size seed) case proof l = sample_ends size seed
 call_ends help case proof l = only_ends (done help_text)
 

@@ -25,15 +25,15 @@ use Rattle.study_register.specs.declared.fault.RegisterFault.{RegisterFault}
 use Rattle.study_register.specs.declared.fault.RegisterFault.TheVariants.{BadLook, Wide, Fault, NoMemory}
 use Rattle.study_register.proofs.EachEnd.{look_ends, follows_defined, each_opening_ends}
 use Rattle.study_register.proofs.TakenLooks.{taken_study, taken_is_study}
-use Rattle.study_answers.specs.Commands.{commands_of as commands_said}
-use Rattle.study_answers.specs.CommandFaults.{on_line}
-use Rattle.study_answers.specs.CommandLines.{IsBelow}
-use Rattle.study_answers.specs.Replies.{taken_in, looks_taken, IsReply, AreReplies, IsBreak, IsFirstBreak}
-use Rattle.study_answers.specs.StudyStages.{opened, answering, study_stage, on_looks}
-use Rattle.study_answers.specs.declared.command.StudyCommand.{StudyCommand}
-use Rattle.study_answers.specs.declared.command.StudyCommand.TheVariants.{Take, Show}
-use Rattle.study_answers.proofs.CommandReads.{read_below}
-use Rattle.study_cli.specs.StudyOutcome.{study_needs, commands_in, case_of, commands_of, study_call}
+use Rattle.study_cli.specs.Commands.{commands_of}
+use Rattle.study_cli.specs.CommandFaults.{on_line}
+use Rattle.study_cli.specs.CommandLines.{IsBelow}
+use Rattle.study_cli.specs.Replies.{taken_in, looks_taken, IsReply, AreReplies, IsBreak, IsFirstBreak}
+use Rattle.study_cli.specs.StudyStages.{opened, answering, study_stage, on_looks}
+use Rattle.study_cli.specs.declared.command.StudyCommand.{StudyCommand}
+use Rattle.study_cli.specs.declared.command.StudyCommand.TheVariants.{Take, Show}
+use Rattle.study_cli.proofs.CommandReads.{read_below}
+use Rattle.study_cli.specs.StudyOutcome.{study_needs, commands_in, case_of, commands_from, study_call}
 use Rattle.answers_exist.specs.Ends.{Ends}
 use Rattle.answers_exist.specs.Existence.{StudiesHaveAnOutcome}
 use Rattle.answers_exist.proofs.AcceptedCases.{accepted_ends, accepted_taken}
@@ -45,7 +45,7 @@ use Rattle.answers_exist.proofs.Results.{value_or_fault}
 -- ---- commands
 
 commands_end : (c : Content) (bytes : List ℕ) → Ends (commands_in c bytes)
-commands_end c bytes = elim (value_or_fault (commands_said c.names bytes)) [
+commands_end c bytes = elim (value_or_fault (commands_of c.names bytes)) [
   | inl list ↦ inl list
   | inr f ↦ inr (commands_refusal f.0.line f.0.kind, (f.0.line, f.0.kind, f.1, refl))
 ]
@@ -53,7 +53,7 @@ commands_end c bytes = elim (value_or_fault (commands_said c.names bytes)) [
 -- what commands say of looks is of hypotheses of the case
 commands_below : (c : Content) (bytes : List ℕ) (list : List StudyCommand) → (commands_in c bytes).Gives list
     → AllByRecursion (IsBelow (length c.names)) list
-unfolding commands_said
+unfolding commands_of
 commands_below c bytes list e = read_below c.names bytes (Ok list) (ap (result_told on_line) e)
 
 no_fault : (c : Content) (ls : List Look) (s : StudyState) (n : ℕ) → ¬ IsFirstStop c s n ls Fault
@@ -141,17 +141,17 @@ looks_end : {R A : Type 0} (kept : Option (List Look)) (s : List Look → Stage 
 looks_end (Some looks) s each = each looks
 looks_end None s each = elim (each []) [ inl x ↦ inl (x.0, ([], x.1)) | inr r ↦ inr (r.0, ([], r.1)) ]
 
-said_in : (c : Content) (source : Option (List ℕ)) (list : List StudyCommand) → (commands_of c source).Gives list
+said_in : (c : Content) (source : Option (List ℕ)) (list : List StudyCommand) → (commands_from c source).Gives list
     → AllByRecursion (IsBelow (length c.names)) list
 said_in c source list g = commands_below c g.0 list g.2
 
-call_ends : (asked : StudyAsked) (case commands : Option (List ℕ)) (kept : Option (List Look)) → HasLevel asked.form
+call_ends : (asked : StudyAsked) (case commands : Option (List ℕ)) (kept : Option (List Look)) → HasLevel asked.format
     → Ends (study_call asked case commands kept)
 unfolding study_call
 call_ends asked case commands kept l =
-    then_ends (case_of asked case) _ (accepted_ends asked.form study_needs case l)
-    (λ c g. let T = accepted_taken asked.form study_needs case c g in
-    then_ends (commands_of c commands) _
+    then_ends (case_of asked case) _ (accepted_ends asked.format study_needs case l)
+    (λ c g. let T = accepted_taken asked.format study_needs case c g in
+    then_ends (commands_from c commands) _
     (then_ends (on_bytes commands (within (codes "commands "))) (commands_in c)
     (bytes_end commands (within (codes "commands ")) (λ bytes. within_ends (codes "commands ") bytes)) (λ bytes h. commands_end c bytes))
     (λ list h. looks_end kept (study_stage c list) (λ looks. study_ends c T.valid list (said_in c commands list h) looks)))

@@ -2,7 +2,7 @@
 //!
 //! `run` and `run_study` promise that what they put is an answer of `outcome` or of `study_outcome`, unless memory is out. Both are
 //! relations, since a decision, a table or a look is described by what it is, and not computed. So it has to be proved that they
-//! leave no case out. Each stage gives a value or refuses: the words, a case in each form, what a command needs of it, and what
+//! leave no case out. Each stage gives a value or refuses: the words, a case in each format, what a command needs of it, and what
 //! each command writes. A run of removals is followed hypothesis by hypothesis, until the next operation is undefined or no
 //! hypothesis is legal.
 //!

@@ -6,9 +6,9 @@ use Rattle.command_words.specs.declared.command.CaseTask.{CaseTask}
 use Rattle.command_words.specs.declared.command.Command.{Command}
 use Rattle.command_words.specs.declared.command.Command.TheVariants as commands
 use Rattle.command_words.specs.declared.graph_name.SizedGraph.{SizedGraph}
-use Rattle.command_words.specs.declared.form.CaseForm.{CaseForm}
+use Rattle.command_words.specs.declared.format.CaseFormat.{CaseFormat}
 use Rattle.command_words.specs.declared.command.StudyCall.{StudyCall}
-use Rattle.command_words.specs.declared.form.CaseForm.TheVariants as forms
+use Rattle.command_words.specs.declared.format.CaseFormat.TheVariants as formats
 
 -- how a case is written; a sheet comes with its level
 pub data Written : Type 0 where
@@ -24,32 +24,32 @@ pub data Asked : Type 0 where
   sample : (size seed : ℕ) → Asked
   help : Asked
 
-abbrev pub written : CaseForm → Written
-written forms.Text = text
-written (forms.Csv alpha) = csv (level_of alpha)
-written forms.Json = json
+abbrev pub written : CaseFormat → Written
+written formats.Text = text
+written (formats.Csv alpha) = csv (level_of alpha)
+written formats.Json = json
 
 abbrev pub asked : Command → Asked
-asked (commands.OnCase form task) = on_case (written form) task
+asked (commands.OnCase format task) = on_case (written format) task
 asked (commands.Catalogue graph) = catalogue graph
-asked (commands.Check form file) = check (written form) file
+asked (commands.Check format file) = check (written format) file
 asked (commands.Sample size seed) = sample size seed
 asked commands.Help = help
 
 -- the place, from 0, of the word that names the file of a proof
 unfoldable pub file_of : Asked → Option ℕ
-file_of (on_case form task) = None
+file_of (on_case format task) = None
 file_of (catalogue graph) = None
-file_of (check form file) = Some file
+file_of (check format file) = Some file
 file_of (sample size seed) = None
 file_of help = None
 
 -- What a study is to do: how its case is written, which word names the file of its commands, and the path of the file of its looks. The word's place
 -- counts from 0.
 pub record StudyAsked : Type 0 where
-  pub form : Written
+  pub format : Written
   pub file : ℕ
   pub store : Option (List ℕ)
 
 abbrev pub study_asked : StudyCall → StudyAsked
-study_asked call = record { form = written call.form; file = call.file; store = option_map (λ path. path.now) call.store }
+study_asked call = record { format = written call.format; file = call.file; store = option_map (λ path. path.now) call.store }

@@ -5,13 +5,13 @@ use Rattle.command_words.specs.Asked.{Asked, StudyAsked, Written, text, csv, jso
 use Rattle.command_words.specs.Counts.{count_of}
 use Rattle.command_words.specs.Graphs.{sized, has_second}
 use Rattle.command_words.specs.Levels.{Level, level_of, level_in}
-use Rattle.command_words.specs.Table.{form_named, form_read, graph_named, priority_named, passing}
+use Rattle.command_words.specs.Table.{format_named, format_read, graph_named, priority_named, passing}
 use Rattle.command_words.specs.declared.argument.Argument.{Argument}
 use Rattle.command_words.specs.declared.argument.Argument.TheVariants as arguments
 use Rattle.command_words.specs.declared.command.CaseTask.{CaseTask}
 use Rattle.command_words.specs.declared.command.CaseTask.TheVariants as tasks
-use Rattle.command_words.specs.declared.form.Form.{Form}
-use Rattle.command_words.specs.declared.form.Form.TheVariants as forms
+use Rattle.command_words.specs.declared.format.Format.{Format}
+use Rattle.command_words.specs.declared.format.Format.TheVariants as formats
 use Rattle.command_words.specs.declared.given.Given.{Given}
 use Rattle.command_words.specs.declared.graph_name.GraphName.{GraphName}
 use Rattle.command_words.specs.declared.verb.Verb.{Verb}
@@ -22,10 +22,10 @@ use Rattle.sequential.specs.declared.priority.Priority.TheVariants.{First}
 -- The values that were given. Beside those of `alpha` and `second` are the numbers, from 1, of the words with these names. The place of the word that
 -- names a file counts from 0.
 pub record GivenContent : Type 0 where
-  pub form : Option Form
+  pub format : Option Format
   pub alpha : Option (Level × ℕ)
   pub priority : Option Priority
-  pub to : Option Form
+  pub to : Option Format
   pub size : Option ℕ
   pub seed : Option ℕ
   pub graph : Option GraphName
@@ -35,7 +35,7 @@ pub record GivenContent : Type 0 where
 
 abbrev pub given_content : Given → GivenContent
 given_content g = record {
-  form = g.form;
+  format = g.format;
   alpha = option_map (λ x. (level_of x.0, x.1)) g.alpha;
   priority = g.priority;
   to = g.to;
@@ -49,7 +49,7 @@ given_content g = record {
 
 abbrev pub nothing : GivenContent
 nothing = record {
-  form = None;
+  format = None;
   alpha = None;
   priority = None;
   to = None;
@@ -63,7 +63,7 @@ nothing = record {
 
 -- an argument was given
 abbrev pub is_given : GivenContent → Argument → Bool
-is_given g arguments.Form = is_some g.form
+is_given g arguments.Format = is_some g.format
 is_given g arguments.Alpha = is_some g.alpha
 is_given g arguments.Priority = is_some g.priority
 is_given g arguments.To = is_some g.to
@@ -80,10 +80,10 @@ not_given g argument = passing (λ x. not (is_given g x)) argument
 
 -- the same, and an argument with the value that bytes spell, if they spell one; its first word is at a place, from 0
 unfoldable pub with_text : Verb → ℕ → Argument → List ℕ → GivenContent → Option GivenContent
-with_text verb at arguments.Form bytes g = option_map (λ form. record g { form = Some form }) (form_read verb bytes)
+with_text verb at arguments.Format bytes g = option_map (λ format. record g { format = Some format }) (format_read verb bytes)
 with_text verb at arguments.Alpha bytes g = option_map (λ alpha. record g { alpha = Some (alpha, at + 1) }) (level_in bytes)
 with_text verb at arguments.Priority bytes g = option_map (λ priority. record g { priority = Some priority }) (priority_named bytes)
-with_text verb at arguments.To bytes g = option_map (λ form. record g { to = Some form }) (form_named bytes)
+with_text verb at arguments.To bytes g = option_map (λ format. record g { to = Some format }) (format_named bytes)
 with_text verb at arguments.Size bytes g = option_map (λ size. record g { size = Some size }) (count_of bytes)
 with_text verb at arguments.Seed bytes g = option_map (λ seed. record g { seed = Some seed }) (count_of bytes)
 with_text verb at arguments.Graph bytes g = option_map (λ graph. record g { graph = Some graph }) (graph_named bytes)
@@ -101,19 +101,19 @@ word_of given = option_map (λ x. x.1) given
 
 -- ---- how a case is written
 
--- a text, if no form is given
-abbrev pub form_or_text : Option Form → Form
-form_or_text None = forms.Text
-form_or_text (Some form) = form
+-- a text, if no format is given
+abbrev pub format_or_text : Option Format → Format
+format_or_text None = formats.Text
+format_or_text (Some format) = format
 
 -- a sheet needs its level
-abbrev pub written_as : Form → Option Level → Option Written
-written_as forms.Text alpha = Some text
-written_as forms.Csv alpha = option_map csv alpha
-written_as forms.Json alpha = Some json
+abbrev pub written_as : Format → Option Level → Option Written
+written_as formats.Text alpha = Some text
+written_as formats.Csv alpha = option_map csv alpha
+written_as formats.Json alpha = Some json
 
 unfoldable pub written_of : GivenContent → Option Written
-written_of g = written_as (form_or_text g.form) (value_of g.alpha)
+written_of g = written_as (format_or_text g.format) (value_of g.alpha)
 
 -- ---- what a command asks for
 
@@ -123,7 +123,7 @@ priority_or_first (Some priority) = priority
 
 -- a task on the case; nothing if something is missing
 unfoldable pub on_case : GivenContent → CaseTask → Option Asked
-on_case g task = option_map (λ form. task_on_case form task) (written_of g)
+on_case g task = option_map (λ format. task_on_case format task) (written_of g)
 
 -- a named graph needs its name, its size, and its second size if it has one
 abbrev pub catalogue_by : Option GraphName → Option ℕ → Option ℕ → Option Asked
@@ -136,8 +136,8 @@ catalogue_of g = catalogue_by g.graph g.size (value_of g.second)
 
 -- a check needs its file, and how its case is written
 abbrev pub check_by : Option Written → Option ℕ → Option Asked
-check_by (Some form) (Some file) = Some (check form file)
-check_by (Some form) None = None
+check_by (Some format) (Some file) = Some (check format file)
+check_by (Some format) None = None
 check_by None file = None
 
 unfoldable pub check_of : GivenContent → Option Asked
@@ -154,8 +154,8 @@ sample_of g = sample_by g.size g.seed
 
 -- a study needs its commands, and how its case is written
 abbrev pub study_by : Option Written → Option ℕ → Option (List ℕ) → Option StudyAsked
-study_by (Some form) (Some file) store = Some (record { form = form; file = file; store = store })
-study_by (Some form) None store = None
+study_by (Some format) (Some file) store = Some (record { format = format; file = file; store = store })
+study_by (Some format) None store = None
 study_by None file store = None
 
 unfoldable pub study_of : GivenContent → Option StudyAsked
@@ -170,7 +170,7 @@ asked_of verbs.Simes g = on_case g tasks.Simes
 asked_of verbs.Evidence g = on_case g (tasks.Evidence (priority_or_first g.priority))
 asked_of verbs.Stages g = on_case g tasks.Stages
 asked_of verbs.Check g = check_of g
-asked_of verbs.Canon g = on_case g (tasks.Canon (form_or_text g.to))
+asked_of verbs.Canon g = on_case g (tasks.Canon (format_or_text g.to))
 asked_of verbs.Catalogue g = catalogue_of g
 asked_of verbs.Sample g = sample_of g
 asked_of verbs.Study g = None
@@ -179,13 +179,13 @@ asked_of verbs.Help g = Some help
 -- ---- what the others forbid
 
 -- a level is given, and no sheet
-abbrev pub forbidden_alpha : Form → Option ℕ → Option ℕ
-forbidden_alpha forms.Csv word = None
-forbidden_alpha forms.Text word = word
-forbidden_alpha forms.Json word = word
+abbrev pub forbidden_alpha : Format → Option ℕ → Option ℕ
+forbidden_alpha formats.Csv word = None
+forbidden_alpha formats.Text word = word
+forbidden_alpha formats.Json word = word
 
 unfoldable pub alpha_forbidden : GivenContent → Option ℕ
-alpha_forbidden g = forbidden_alpha (form_or_text g.form) (word_of g.alpha)
+alpha_forbidden g = forbidden_alpha (format_or_text g.format) (word_of g.alpha)
 
 -- a second size is given, and the graph has none
 abbrev pub forbidden_if : Bool → Option ℕ → Option ℕ

@@ -6,8 +6,8 @@ use Rattle.std.specs.Str.{bytes_eq}
 use Rattle.std.specs.Map.{lookup}
 use Rattle.command_words.specs.declared.argument.Argument.{Argument}
 use Rattle.command_words.specs.declared.argument.Argument.TheVariants as arguments
-use Rattle.command_words.specs.declared.form.Form.{Form}
-use Rattle.command_words.specs.declared.form.Form.TheVariants.{Text, Csv, Json}
+use Rattle.command_words.specs.declared.format.Format.{Format}
+use Rattle.command_words.specs.declared.format.Format.TheVariants.{Text, Csv, Json}
 use Rattle.command_words.specs.declared.graph_name.GraphName.{GraphName}
 use Rattle.command_words.specs.declared.graph_name.GraphName.TheVariants.{Holm, FixedSequence, Fallback, Parallel, ImprovedParallel}
 use Rattle.command_words.specs.declared.verb.Verb.{Verb}
@@ -40,17 +40,17 @@ verb_named name = lookup (bytes_eq name) (
 
 -- the options that a command takes
 unfoldable pub options_of : Verb → List Argument
-options_of verbs.Test = arguments.Form ∷ arguments.Alpha ∷ arguments.Priority ∷ []
-options_of verbs.Weights = arguments.Form ∷ arguments.Alpha ∷ []
-options_of verbs.Bounds = arguments.Form ∷ arguments.Alpha ∷ []
-options_of verbs.Simes = arguments.Form ∷ arguments.Alpha ∷ []
-options_of verbs.Evidence = arguments.Form ∷ arguments.Alpha ∷ arguments.Priority ∷ []
-options_of verbs.Stages = arguments.Form ∷ []
-options_of verbs.Check = arguments.Form ∷ arguments.Alpha ∷ []
-options_of verbs.Canon = arguments.Form ∷ arguments.Alpha ∷ arguments.To ∷ []
+options_of verbs.Test = arguments.Format ∷ arguments.Alpha ∷ arguments.Priority ∷ []
+options_of verbs.Weights = arguments.Format ∷ arguments.Alpha ∷ []
+options_of verbs.Bounds = arguments.Format ∷ arguments.Alpha ∷ []
+options_of verbs.Simes = arguments.Format ∷ arguments.Alpha ∷ []
+options_of verbs.Evidence = arguments.Format ∷ arguments.Alpha ∷ arguments.Priority ∷ []
+options_of verbs.Stages = arguments.Format ∷ []
+options_of verbs.Check = arguments.Format ∷ arguments.Alpha ∷ []
+options_of verbs.Canon = arguments.Format ∷ arguments.Alpha ∷ arguments.To ∷ []
 options_of verbs.Catalogue = arguments.Size ∷ arguments.Second ∷ []
 options_of verbs.Sample = arguments.Size ∷ arguments.Seed ∷ []
-options_of verbs.Study = arguments.Form ∷ arguments.Store ∷ []
+options_of verbs.Study = arguments.Format ∷ arguments.Store ∷ []
 options_of verbs.Help = []
 
 -- what a word without a name gives, if a command takes one
@@ -60,16 +60,16 @@ operand_of verbs.Check = Some arguments.File
 operand_of verbs.Study = Some arguments.File
 operand_of verb = None
 
--- a command may read its case in a form; a sheet has no stages
-unfoldable pub reads : Verb → Form → Bool
+-- a command may read its case in a format; a sheet has no stages
+unfoldable pub reads : Verb → Format → Bool
 reads verbs.Stages Csv = false
 reads verbs.Study Csv = false
-reads verb form = true
+reads verb format = true
 
 -- ---- arguments
 
 unfoldable pub argument_name : Argument → List ℕ
-argument_name arguments.Form = codes "form"
+argument_name arguments.Format = codes "form"
 argument_name arguments.Alpha = codes "alpha"
 argument_name arguments.Priority = codes "priority"
 argument_name arguments.To = codes "to"
@@ -91,13 +91,13 @@ argument_of verb None = operand_of verb
 
 -- ---- values
 
--- the form of a name
-unfoldable pub form_named : List ℕ → Option Form
-form_named name = lookup (bytes_eq name) ((codes "text", Text) ∷ (codes "csv", Csv) ∷ (codes "json", Json) ∷ [])
+-- the format of a name
+unfoldable pub format_named : List ℕ → Option Format
+format_named name = lookup (bytes_eq name) ((codes "text", Text) ∷ (codes "csv", Csv) ∷ (codes "json", Json) ∷ [])
 
 -- the same, if a command may read its case in it
-abbrev pub form_read : Verb → List ℕ → Option Form
-form_read verb name = passing (reads verb) (form_named name)
+abbrev pub format_read : Verb → List ℕ → Option Format
+format_read verb name = passing (reads verb) (format_named name)
 
 -- the graph of a name
 unfoldable pub graph_named : List ℕ → Option GraphName

@@ -3,7 +3,7 @@
 /// What a command may be given, without its value: by an option `--name`, or by a word without a name.
 #[derive(Clone, Copy, PartialEq, Eq, Debug)]
 pub(crate) enum Argument {
-    Form,
+    Format,
     Alpha,
     Priority,
     To,
@@ -25,7 +25,7 @@ impl Argument {
         ensures { result.now ≡ argument_name self }
     {
         match self {
-            Argument::Form => "form",
+            Argument::Format => "form",
             Argument::Alpha => "alpha",
             Argument::Priority => "priority",
             Argument::To => "to",

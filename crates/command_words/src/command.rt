@@ -1,7 +1,7 @@
 //! Commands.
 ghost use Rattle.std.specs.Prelude.{◌≡◌};
 
-use crate::form::{CaseForm, Form};
+use crate::format::{CaseFormat, Format};
 use crate::graph_name::SizedGraph;
 use sequential::Priority;
 
@@ -14,17 +14,17 @@ pub enum CaseTask {
     Simes,
     Evidence(Priority),
     Stages,
-    Canon(Form),
+    Canon(Format),
 }
 
 /// What is to be done.
 #[derive(Clone, Copy)]
 pub enum Command {
-    OnCase(CaseForm, CaseTask),
+    OnCase(CaseFormat, CaseTask),
     /// The case of a named graph.
     Catalogue(SizedGraph),
     /// A check of evidence for a case; the word at the place `file`, from 0, names the file of the evidence.
-    Check { form: CaseForm, file: usize },
+    Check { format: CaseFormat, file: usize },
     /// A sample of a size, from a seed.
     Sample { size: u64, seed: u64 },
     Help,
@@ -34,7 +34,7 @@ pub enum Command {
 /// looks. The word's place counts from 0.
 #[derive(Clone, Copy)]
 pub struct StudyCall<'a> {
-    pub form: CaseForm,
+    pub format: CaseFormat,
     pub file: usize,
     pub store: Option<&'a str>,
 }

@@ -3,7 +3,7 @@
 use crate::argument::Argument;
 use crate::command::{CaseTask, Command, StudyCall};
 use crate::count::count_spelt;
-use crate::form::{CaseForm, Form};
+use crate::format::{CaseFormat, Format};
 use crate::graph_name::GraphName;
 use crate::level::level_spelt;
 use crate::priority::priority_named;
@@ -15,10 +15,10 @@ use sequential::Priority;
 /// names. The place of the word that names a file counts from 0.
 #[derive(Drop)]
 pub(crate) struct Given<'a> {
-    form: Option<Form>,
+    format: Option<Format>,
     alpha: Option<(Fraction, usize)>,
     priority: Option<Priority>,
-    to: Option<Form>,
+    to: Option<Format>,
     size: Option<u64>,
     seed: Option<u64>,
     graph: Option<GraphName>,
@@ -53,7 +53,7 @@ impl<'a> Given<'a> {
         ensures { given_content result ≡ nothing }
     {
         Given {
-            form: None,
+            format: None,
             alpha: None,
             priority: None,
             to: None,
@@ -78,7 +78,7 @@ impl<'a> Given<'a> {
         ensures { result ≡ is_given (given_content self.now) argument }
     {
         match argument {
-            Argument::Form => self.form.is_some(),
+            Argument::Format => self.format.is_some(),
             Argument::Alpha => self.alpha.is_some(),
             Argument::Priority => self.priority.is_some(),
             Argument::To => self.to.is_some(),
@@ -106,10 +106,10 @@ impl<'a> Given<'a> {
     {
         let mut given = Given { ..*self };
         match argument {
-            Argument::Form => given.form = Some(verb.form(text)?),
+            Argument::Format => given.format = Some(verb.format(text)?),
             Argument::Alpha => given.alpha = Some((level_spelt(text)?, at + 1)),
             Argument::Priority => given.priority = Some(priority_named(text)?),
-            Argument::To => given.to = Some(Form::named(text)?),
+            Argument::To => given.to = Some(Format::named(text)?),
             Argument::Size => given.size = Some(count_spelt(text.as_bytes())?),
             Argument::Seed => given.seed = Some(count_spelt(text.as_bytes())?),
             Argument::Graph => given.graph = Some(GraphName::named(text)?),
@@ -122,13 +122,13 @@ impl<'a> Given<'a> {
 
     /// Returns how the case is written; `None` if its level is missing.
     #[tactic(auto, unfolding(crate::specs::Given::written_of))]
-    fn case_form(&self) -> Option<CaseForm>
+    fn case_format(&self) -> Option<CaseFormat>
         ensures { option_map written result ≡ written_of (given_content self.now) }
     {
-        match self.form {
-            None | Some(Form::Text) => Some(CaseForm::Text),
-            Some(Form::Csv) => self.alpha.map(|(alpha, _)| CaseForm::Csv(alpha)),
-            Some(Form::Json) => Some(CaseForm::Json),
+        match self.format {
+            None | Some(Format::Text) => Some(CaseFormat::Text),
+            Some(Format::Csv) => self.alpha.map(|(alpha, _)| CaseFormat::Csv(alpha)),
+            Some(Format::Json) => Some(CaseFormat::Json),
         }
     }
 
@@ -137,8 +137,8 @@ impl<'a> Given<'a> {
     fn on_case(&self, task: CaseTask) -> Option<Command>
         ensures { option_map asked result ≡ on_case (given_content self.now) task }
     {
-        let form = self.case_form()?;
-        Some(Command::OnCase(form, task))
+        let format = self.case_format()?;
+        Some(Command::OnCase(format, task))
     }
 
     /// Returns a named graph; `None` if something is missing.
@@ -157,9 +157,9 @@ impl<'a> Given<'a> {
     fn check(&self) -> Option<Command>
         ensures { option_map asked result ≡ check_of (given_content self.now) }
     {
-        let form = self.case_form()?;
+        let format = self.case_format()?;
         let file = self.file?;
-        Some(Command::Check { form, file })
+        Some(Command::Check { format, file })
     }
 
     /// Returns a sample; `None` if something is missing.
@@ -177,9 +177,9 @@ impl<'a> Given<'a> {
     pub(crate) fn study(&self) -> Option<StudyCall<'a>>
         ensures { option_map study_asked result ≡ study_of (given_content self.now) }
     {
-        let form = self.case_form()?;
+        let format = self.case_format()?;
         Some(StudyCall {
-            form,
+            format,
             file: self.file?,
             store: self.store,
         })
@@ -199,7 +199,7 @@ impl<'a> Given<'a> {
             }
             Verb::Stages => self.on_case(CaseTask::Stages),
             Verb::Check => self.check(),
-            Verb::Canon => self.on_case(CaseTask::Canon(self.to.unwrap_or(Form::Text))),
+            Verb::Canon => self.on_case(CaseTask::Canon(self.to.unwrap_or(Format::Text))),
             Verb::Catalogue => self.catalogue(),
             Verb::Sample => self.sample(),
             Verb::Study => None,
@@ -207,13 +207,13 @@ impl<'a> Given<'a> {
         }
     }
 
-    /// Returns the number, from 1, of the word with the name `alpha`, if the form forbids it.
+    /// Returns the number, from 1, of the word with the name `alpha`, if the format forbids it.
     #[tactic(auto, unfolding(crate::specs::Given::alpha_forbidden))]
     fn forbidden_alpha(&self) -> Option<usize>
         ensures { result ≡ alpha_forbidden (given_content self.now) }
     {
-        match (self.form, self.alpha) {
-            (Some(Form::Csv), _) | (_, None) => None,
+        match (self.format, self.alpha) {
+            (Some(Format::Csv), _) | (_, None) => None,
             (_, Some((_, word))) => Some(word),
         }
     }

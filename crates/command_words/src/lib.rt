@@ -10,7 +10,7 @@
 mod argument;
 mod command;
 mod count;
-mod form;
+mod format;
 mod given;
 mod graph_name;
 mod level;
@@ -20,6 +20,6 @@ mod verb;
 mod word;
 
 pub use command::{CaseTask, Command, StudyCall};
-pub use form::{CaseForm, Form};
+pub use format::{CaseFormat, Format};
 pub use graph_name::SizedGraph;
 pub use reading::{asks_study, read_study, read_words};

@@ -1,7 +1,7 @@
 //! The table of commands.
 
 use crate::argument::Argument;
-use crate::form::Form;
+use crate::format::Format;
 
 /// A command, by its name alone.
 #[derive(Clone, Copy, PartialEq, Eq, Debug)]
@@ -23,7 +23,7 @@ pub(crate) enum Verb {
 impl Verb {
     ghost use Rattle.std.specs.Prelude.{◌≡◌};
     ghost use Rattle.std.specs.Option.{option_map};
-    ghost use Rattle.command_words.specs.Table.{verb_named, options_of, operand_of, option_named, argument_of, reads, form_read};
+    ghost use Rattle.command_words.specs.Table.{verb_named, options_of, operand_of, option_named, argument_of, reads, format_read};
 
     /// Returns the command of a name, but for `study`, which is done by a top call of its own.
     #[tactic(auto, unfolding(crate::specs::Table::verb_named))]
@@ -52,17 +52,17 @@ impl Verb {
         ensures { result.now ≡ options_of self }
     {
         match self {
-            Verb::Test => &[Argument::Form, Argument::Alpha, Argument::Priority],
-            Verb::Weights => &[Argument::Form, Argument::Alpha],
-            Verb::Bounds => &[Argument::Form, Argument::Alpha],
-            Verb::Simes => &[Argument::Form, Argument::Alpha],
-            Verb::Evidence => &[Argument::Form, Argument::Alpha, Argument::Priority],
-            Verb::Stages => &[Argument::Form],
-            Verb::Check => &[Argument::Form, Argument::Alpha],
-            Verb::Canon => &[Argument::Form, Argument::Alpha, Argument::To],
+            Verb::Test => &[Argument::Format, Argument::Alpha, Argument::Priority],
+            Verb::Weights => &[Argument::Format, Argument::Alpha],
+            Verb::Bounds => &[Argument::Format, Argument::Alpha],
+            Verb::Simes => &[Argument::Format, Argument::Alpha],
+            Verb::Evidence => &[Argument::Format, Argument::Alpha, Argument::Priority],
+            Verb::Stages => &[Argument::Format],
+            Verb::Check => &[Argument::Format, Argument::Alpha],
+            Verb::Canon => &[Argument::Format, Argument::Alpha, Argument::To],
             Verb::Catalogue => &[Argument::Size, Argument::Second],
             Verb::Sample => &[Argument::Size, Argument::Seed],
-            Verb::Study => &[Argument::Form, Argument::Store],
+            Verb::Study => &[Argument::Format, Argument::Store],
             Verb::Help => &[],
         }
     }
@@ -100,19 +100,19 @@ impl Verb {
         }
     }
 
-    /// Whether the command may read its case in a form.
+    /// Whether the command may read its case in a format.
     #[tactic(auto, unfolding(crate::specs::Table::reads))]
-    fn reads(self, form: Form) -> bool
-        ensures { result ≡ reads self form }
+    fn reads(self, format: Format) -> bool
+        ensures { result ≡ reads self format }
     {
-        !matches!((self, form), (Verb::Stages | Verb::Study, Form::Csv))
+        !matches!((self, format), (Verb::Stages | Verb::Study, Format::Csv))
     }
 
-    /// Returns the form of a name, if the command may read its case in it.
-    pub(crate) fn form(self, name: &str) -> Option<Form>
-        ensures { result ≡ form_read self name.now }
+    /// Returns the format of a name, if the command may read its case in it.
+    pub(crate) fn format(self, name: &str) -> Option<Format>
+        ensures { result ≡ format_read self name.now }
     {
-        let form = Form::named(name)?;
-        if self.reads(form) { Some(form) } else { None }
+        let format = Format::named(name)?;
+        if self.reads(format) { Some(format) } else { None }
     }
 }

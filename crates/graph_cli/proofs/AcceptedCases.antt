@@ -60,7 +60,7 @@ json_not_both : (bytes : List ℕ) (d : Draft) (r : Refusal) → (grammar json b
 json_not_both bytes d r h (inl k) = k.0 h.0 h.1
 json_not_both bytes d r h (inr k) = cc (sym h.2 ∙ same_document bytes h.0 k.1.0 h.1 k.1.1 ∙ k.1.2)
 
-grammar_decided : (form : Written) (bytes : List ℕ) → IsDecided (grammar form bytes)
+grammar_decided : (format : Written) (bytes : List ℕ) → IsDecided (grammar format bytes)
 grammar_decided text bytes = record {
   one = λ d e h k. one_draft bytes d e h k;
   one_refusal = λ r q h k. let e = one_first_fault bytes h.0 k.0 h.1 k.1 h.2 k.2 in h.3 ∙ ap₂ line_refusal e.0 e.1 ∙ sym k.3;
@@ -101,7 +101,7 @@ of_size_decided most c = record {
 suitable_decided : (needs : Needs) (c : Content) → IsDecided (suitable needs c)
 suitable_decided needs c = then_decided _ _ (of_kind_decided needs.kind c) (of_size_decided needs.most)
 
-pub accepted_decided : (form : Written) (needs : Needs) (bytes : List ℕ) → IsDecided (accepted form needs (Some bytes))
-accepted_decided form needs bytes =
-    then_decided _ _ (within_decided _ bytes) (λ xs. then_decided _ _ (then_decided _ _ (grammar_decided form xs) faultless_decided)
+pub accepted_decided : (format : Written) (needs : Needs) (bytes : List ℕ) → IsDecided (accepted format needs (Some bytes))
+accepted_decided format needs bytes =
+    then_decided _ _ (within_decided _ bytes) (λ xs. then_decided _ _ (then_decided _ _ (grammar_decided format xs) faultless_decided)
     (λ c. told_as_decided (line_of c.names) _ (suitable_decided needs c)))

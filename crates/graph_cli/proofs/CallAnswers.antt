@@ -8,8 +8,8 @@ use Rattle.command_words.specs.declared.command.CaseTask.{CaseTask}
 use Rattle.command_words.specs.declared.command.CaseTask.TheVariants as tasks
 use Rattle.graph_cli.specs.Commands.{on_case, needs_of, case_call, check_needs, check_call, call_of}
 use Rattle.command_words.specs.declared.graph_name.SizedGraph.{SizedGraph}
-use Rattle.command_words.specs.declared.form.Form.{Form}
-use Rattle.command_words.specs.declared.form.Form.TheVariants as forms
+use Rattle.command_words.specs.declared.format.Format.{Format}
+use Rattle.command_words.specs.declared.format.Format.TheVariants as formats
 use Rattle.graph_cli.specs.Canon.{sheet_stage, canon_stage}
 use Rattle.graph_cli.specs.Graphs.{catalogue_stage, named_case, reported_size}
 use Rattle.graph_cli.specs.Help.{help_stage}
@@ -36,11 +36,11 @@ sheet_decided : (c : Content) → IsDecided (sheet_stage c)
 unfolding sheet_stage
 sheet_decided c = record { one = λ a b h k. h.1 ∙ sym k.1; one_refusal = λ r q h k. h.1 ∙ sym k.1; not_both = λ a r h k. true≢false (sym h.0 ∙ k.0) }
 
-canon_decided : (form : Form) (c : Content) → IsDecided (canon_stage form c)
+canon_decided : (format : Format) (c : Content) → IsDecided (canon_stage format c)
 unfolding canon_stage
-canon_decided forms.Text c = only_decided _
-canon_decided forms.Csv c = sheet_decided c
-canon_decided forms.Json c = only_decided _
+canon_decided formats.Text c = only_decided _
+canon_decided formats.Csv c = sheet_decided c
+canon_decided formats.Json c = only_decided _
 
 task_decided : (task : CaseTask) (c : Content) → IsDecided (on_case task c)
 unfolding on_case
@@ -50,14 +50,14 @@ task_decided tasks.Bounds c = bounds_decided c
 task_decided tasks.Simes c = simes_decided c
 task_decided (tasks.Evidence priority) c = evidence_decided priority c
 task_decided tasks.Stages c = stages_decided c
-task_decided (tasks.Canon form) c = canon_decided form c
+task_decided (tasks.Canon format) c = canon_decided format c
 
 pub call_decided : (command : Asked) (case proof : List ℕ) → IsDecided (call_of command (Some case) (Some proof))
 unfolding call_of case_call check_call
-call_decided (task_on_case form task) case proof = then_decided _ _ (accepted_decided form (needs_of task) case)
+call_decided (task_on_case format task) case proof = then_decided _ _ (accepted_decided format (needs_of task) case)
     (λ c. told_as_decided (line_of c.names) _ (task_decided task c))
 call_decided (catalogue graph) case proof = catalogue_decided graph
-call_decided (check form file) case proof = then_decided _ _ (accepted_decided form check_needs case)
+call_decided (check format file) case proof = then_decided _ _ (accepted_decided format check_needs case)
     (λ c. then_decided _ _ (within_decided _ proof) (λ bytes. told_as_decided (line_of c.names) _ (check_decided c bytes)))
 call_decided (sample size seed) case proof = sample_decided size seed
 call_decided help case proof = help_decided

@@ -58,9 +58,9 @@ reported c v bytes printed V single fits says holds e = record {
 
 pub checks_closed_test : ChecksAreOfTheClosedTest
 unfolding call_of check_call check_needs check_stage
-checks_closed_test words form file case proof a asks (inr h) z = absurd (not_done a.status h.0.cause (ap (λ (x : Answer). x.status) h.2) z)
-checks_closed_test words form file case proof a asks (inl h) z =
-    let command_is : h.0 ≡ check form file = (stage_decided (asked_in words)).one h.0 (check form file) h.1 asks in
+checks_closed_test words format file case proof a asks (inr h) z = absurd (not_done a.status h.0.cause (ap (λ (x : Answer). x.status) h.2) z)
+checks_closed_test words format file case proof a asks (inl h) z =
+    let command_is : h.0 ≡ check format file = (stage_decided (asked_in words)).one h.0 (check format file) h.1 asks in
     let gives = subst (λ command. (call_of command (Some case) (Some proof)).Gives a) command_is h.2 in
     let bytes_are = gives.1.1.0 in
     let read = gives.1.2.1 in
@@ -74,10 +74,10 @@ checks_closed_test words form file case proof a asks (inl h) z =
     let verdict_is = gives.2.2.2.1 ∙ ap Ok answered.0 in
     record {
       draft = draft;
-      says = subst (λ xs. (grammar form xs).Gives draft) bytes_are read.1;
+      says = subst (λ xs. (grammar format xs).Gives draft) bytes_are read.1;
       faultless = read.2.0;
       reports = subst (λ c. ReportsEvidence c proof a.text) content_is
-          (reported gives.0 found.0 proof a.text (subst IsValidContent (sym content_is) (faultless_content draft read.2.0 (known_arrivals form _ draft read.1)))
+          (reported gives.0 found.0 proof a.text (subst IsValidContent (sym content_is) (faultless_content draft read.2.0 (known_arrivals format _ draft read.1)))
           (single_values gives.0.inputs (subst (λ (c : Content). IsOfKind Single c.inputs) (sym gives.1.2.2.2.1) single)) found.1
           (subst (λ xs. SaysEvidence gives.0 xs found.0) proof_is found.2)
           (subst (λ (s : Said). verdict_of (case_check gives.0 s.steps s.keeps) ≡ Ok Yes) found.3 verdict_is)

@@ -50,8 +50,8 @@ named_listed : (steps : List StepLine) (j : ℕ) → is_rejected steps j ≡ set
 unfolding is_rejected
 named_listed steps j = any_listed steps j
 
--- of what a form says, each p-value that arrived is of a hypothesis
-pub known_arrivals : (form : Written) (bytes : List ℕ) (d : Draft) → (grammar form bytes).Gives d → have_known_arrivals d ≡ true
+-- of what a format says, each p-value that arrived is of a hypothesis
+pub known_arrivals : (format : Written) (bytes : List ℕ) (d : Draft) → (grammar format bytes).Gives d → have_known_arrivals d ≡ true
 known_arrivals text bytes d t = document_arrivals bytes d t
 known_arrivals (csv alpha) bytes d t = no_arrivals (cells_of bytes) t.0 d t.2
 known_arrivals json bytes d t = says_arrivals bytes d t
@@ -104,23 +104,23 @@ reported c priority d xs printed v h k e = record {
 }
 
 -- What a task on a case answers with status 0 is of a draft without a fault, which the bytes say.
-pub reports_case : (Reports : Content → List ℕ → Type 0) (words : List (List ℕ)) (form : Written) (task : CaseTask) (case : List ℕ)
+pub reports_case : (Reports : Content → List ℕ → Type 0) (words : List (List ℕ)) (format : Written) (task : CaseTask) (case : List ℕ)
     (proof : Option (List ℕ)) (a : Answer)
     → ((c : Content) → IsValidContent c → (answers_on_case task c).Gives a → Reports c a.text)
-    → AskFor words (on_case form task) → IsAnswerOf (outcome words (Some case) proof) a → a.status ≡ Done → ReportsCase Reports form case a.text
+    → AskFor words (on_case format task) → IsAnswerOf (outcome words (Some case) proof) a → a.status ≡ Done → ReportsCase Reports format case a.text
 unfolding call_of case_call
-reports_case Reports words form task case proof a of_case asks (inr h) z = absurd (not_done a.status h.0.cause (ap (λ (x : Answer). x.status) h.2) z)
-reports_case Reports words form task case proof a of_case asks (inl h) z =
-    let command_is : h.0 ≡ on_case form task = (stage_decided (asked_in words)).one h.0 (on_case form task) h.1 asks in
+reports_case Reports words format task case proof a of_case asks (inr h) z = absurd (not_done a.status h.0.cause (ap (λ (x : Answer). x.status) h.2) z)
+reports_case Reports words format task case proof a of_case asks (inl h) z =
+    let command_is : h.0 ≡ on_case format task = (stage_decided (asked_in words)).one h.0 (on_case format task) h.1 asks in
     let gives = subst (λ command. (call_of command (Some case) proof).Gives a) command_is h.2 in
     let bytes_are = gives.1.1.0 in
     let read = gives.1.2.1 in
     let draft = read.0 in
     let content_is : gives.0 ≡ content_of draft = gives.1.2.2.2.1 ∙ (gives.1.2.2.1.1 ∙ read.2.1) in
-    let valid = subst IsValidContent (sym content_is) (faultless_content draft read.2.0 (known_arrivals form _ draft read.1)) in
+    let valid = subst IsValidContent (sym content_is) (faultless_content draft read.2.0 (known_arrivals format _ draft read.1)) in
     record {
       draft = draft;
-      says = subst (λ xs. (grammar form xs).Gives draft) bytes_are read.1;
+      says = subst (λ xs. (grammar format xs).Gives draft) bytes_are read.1;
       faultless = read.2.0;
       reports = subst (λ c. Reports c a.text) content_is (of_case gives.0 valid gives.2);
     }
@@ -131,5 +131,5 @@ unfolding answers_on_case test_stage
 test_reports priority a c v g = reported c priority g.0 g.2.0 a.text v g.1.1 g.2.1.1 (ap (λ (x : Answer). x.text) g.2.2)
 
 pub reports_closed_test : ReportsAreOfTheClosedTest
-reports_closed_test words form priority case proof a asks h z =
-    reports_case (ReportsClosedTest priority) words form (Test priority) case proof a (test_reports priority a) asks h z
+reports_closed_test words format priority case proof a asks h z =
+    reports_case (ReportsClosedTest priority) words format (Test priority) case proof a (test_reports priority a) asks h z

@@ -54,5 +54,5 @@ evidence_prints priority a c V h =
     (ap (λ (x : Answer). x.text) h.2.2.2 ∙ confirmed.1 ∙ ap (text_said c) said_is)
 
 pub evidence_closed_test : EvidenceIsOfTheClosedTest
-evidence_closed_test words form priority case proof a asks h z =
-    reports_case PrintsEvidence words form (EvidenceTask priority) case proof a (evidence_prints priority a) asks h z
+evidence_closed_test words format priority case proof a asks h z =
+    reports_case PrintsEvidence words format (EvidenceTask priority) case proof a (evidence_prints priority a) asks h z

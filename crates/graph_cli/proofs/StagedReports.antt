@@ -46,4 +46,4 @@ stages_reports a c v g = record {
 }
 
 pub reports_staged_test : ReportsAreOfTheStagedTest
-reports_staged_test words form case proof a asks h z = reports_case ReportsStagedTest words form Stages case proof a (stages_reports a) asks h z
+reports_staged_test words format case proof a asks h z = reports_case ReportsStagedTest words format Stages case proof a (stages_reports a) asks h z

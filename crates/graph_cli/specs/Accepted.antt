@@ -43,7 +43,7 @@ pub record IsTakenWithin {S : Type 0} (left : S → Option (List ℕ)) (calls : 
 abbrev pub IsNoJson : List ℕ → Type 0
 IsNoJson bytes = (value : Data) → ¬ IsJson bytes value
 
--- the draft that bytes denote in a form, or the first place at which they are not allowed
+-- the draft that bytes denote in a format, or the first place at which they are not allowed
 abbrev pub grammar : Written → List ℕ → Stage Refusal Draft
 grammar text bytes = record {
   Gives = λ d. IsText bytes d;
@@ -65,9 +65,9 @@ faultless d = record {
   Refuses = λ r. (fault : CaseFault) × (case_fault d ≡ Some fault) × (r ≡ case_refusal d.names fault);
 }
 
--- the case that bytes say in a form
+-- the case that bytes say in a format
 abbrev pub case_in : Written → List ℕ → Stage Refusal Content
-case_in form bytes = and_then (grammar form bytes) faultless
+case_in format bytes = and_then (grammar format bytes) faultless
 
 -- p-values are of a kind
 abbrev pub IsOfKind : InputKind → Inputs → Type 0
@@ -100,6 +100,6 @@ of_size most c = record {
 abbrev pub suitable : Needs → Content → Stage Trouble Content
 suitable needs c = and_then (of_kind needs.kind c) (of_size needs.most)
 
--- the case that a source says in a form, if a command with these needs can take it
+-- the case that a source says in a format, if a command with these needs can take it
 abbrev pub accepted : Written → Needs → Option (List ℕ) → Stage Refusal Content
-accepted form needs left = and_then (on_bytes left (within [])) (λ bytes. and_then (case_in form bytes) (λ c. told_as (line_of c.names) (suitable needs c)))
+accepted format needs left = and_then (on_bytes left (within [])) (λ bytes. and_then (case_in format bytes) (λ c. told_as (line_of c.names) (suitable needs c)))

@@ -6,8 +6,8 @@ use Rattle.answers.specs.Stages.{Stage, only}
 use Rattle.case_csv.specs.Sheet.{fits_sheet, sheet_text}
 use Rattle.case_json.specs.Written.{json_text}
 use Rattle.case_model.specs.Content.{Content}
-use Rattle.command_words.specs.declared.form.Form.{Form}
-use Rattle.command_words.specs.declared.form.Form.TheVariants.{Text, Csv, Json}
+use Rattle.command_words.specs.declared.format.Format.{Format}
+use Rattle.command_words.specs.declared.format.Format.TheVariants.{Text, Csv, Json}
 use Rattle.edge_text.specs.CanonicalText.{canonical_text}
 use Rattle.graph_cli.specs.declared.trouble.Trouble.{Trouble}
 use Rattle.graph_cli.specs.declared.trouble.Trouble.TheVariants as troubles
@@ -19,8 +19,8 @@ sheet_stage c = record {
   Refuses = λ r. (fits_sheet c ≡ false) × (r ≡ troubles.Kind);
 }
 
--- the canonical document of a case in a form
-unfoldable pub canon_stage : Form → Content → Stage Trouble Answer
+-- the canonical document of a case in a format
+unfoldable pub canon_stage : Format → Content → Stage Trouble Answer
 canon_stage Text c = only (done (canonical_text c))
 canon_stage Csv c = sheet_stage c
 canon_stage Json c = only (done (json_text c))

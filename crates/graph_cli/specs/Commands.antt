@@ -35,7 +35,7 @@ needs_of tasks.Bounds = record { kind = Single; most = 16 }
 needs_of tasks.Simes = record { kind = Single; most = 16 }
 needs_of (tasks.Evidence priority) = record { kind = Single; most = 64 }
 needs_of tasks.Stages = record { kind = Staged; most = 64 }
-needs_of (tasks.Canon form) = record { kind = Any; most = 64 }
+needs_of (tasks.Canon format) = record { kind = Any; most = 64 }
 
 -- what a task answers to a case that it can take
 unfoldable pub on_case : CaseTask → Content → Stage Trouble Answer
@@ -45,11 +45,11 @@ on_case tasks.Bounds c = bounds_stage c
 on_case tasks.Simes c = simes_stage c
 on_case (tasks.Evidence priority) c = evidence_stage priority c
 on_case tasks.Stages c = stages_stage c
-on_case (tasks.Canon form) c = canon_stage form c
+on_case (tasks.Canon format) c = canon_stage format c
 
 -- a task on a case alone
 unfoldable pub case_call : Written → CaseTask → Option (List ℕ) → Stage Refusal Answer
-case_call form task case = and_then (accepted form (needs_of task) case) (λ c. told_as (line_of c.names) (on_case task c))
+case_call format task case = and_then (accepted format (needs_of task) case) (λ c. told_as (line_of c.names) (on_case task c))
 
 -- what `check` needs of its case
 unfoldable pub check_needs : Needs
@@ -57,51 +57,51 @@ check_needs = record { kind = Single; most = 64 }
 
 -- `check`: a case that it can take, and then the text of the evidence
 unfoldable pub check_call : Written → Option (List ℕ) → Option (List ℕ) → Stage Refusal Answer
-check_call form case proof = and_then (accepted form check_needs case) (λ c. and_then (on_bytes proof (within (codes "proof "))) (λ bytes. told_as (line_of c.names) (check_stage c bytes)))
+check_call format case proof = and_then (accepted format check_needs case) (λ c. and_then (on_bytes proof (within (codes "proof "))) (λ bytes. told_as (line_of c.names) (check_stage c bytes)))
 
 -- the source denotes a case that `check` can take
 abbrev pub IsCheckable : Written → Option (List ℕ) → Type 0
-IsCheckable form case = (c : Content) × (accepted form check_needs case).Gives c
+IsCheckable format case = (c : Content) × (accepted format check_needs case).Gives c
 
 -- the source denotes no case that `check` can take
 abbrev pub IsUncheckable : Written → Option (List ℕ) → Type 0
-IsUncheckable form case = (r : Refusal) × (accepted form check_needs case).Refuses r
+IsUncheckable format case = (r : Refusal) × (accepted format check_needs case).Refuses r
 
 -- The ways in which `check` may end, by what its case and its proof were and are.
 abbrev pub check_ways : Written → (case_old case_new proof_old proof_new : Reading) → Ways Answer
-check_ways form case_old case_new proof_old proof_new = over_source (check_call form case_old.left proof_old.left)
-    (Rose case_old.faults case_new.faults ⊎ (IsCheckable form case_old.left × Rose proof_old.faults proof_new.faults))
+check_ways format case_old case_new proof_old proof_new = over_source (check_call format case_old.left proof_old.left)
+    (Rose case_old.faults case_new.faults ⊎ (IsCheckable format case_old.left × Rose proof_old.faults proof_new.faults))
     ((case_new.faults ≡ case_old.faults) × (proof_new.faults ≡ proof_old.faults))
 
 -- what a command answers to a case and a proof
 unfoldable pub call_of : Asked → Option (List ℕ) → Option (List ℕ) → Stage Refusal Answer
-call_of (task_on_case form task) case proof = case_call form task case
+call_of (task_on_case format task) case proof = case_call format task case
 call_of (catalogue graph) case proof = catalogue_stage graph
-call_of (check form file) case proof = check_call form case proof
+call_of (check format file) case proof = check_call format case proof
 call_of (sample size seed) case proof = sample_stage size seed
 call_of help case proof = help_stage
 
 -- a command reads a case
 unfoldable pub TakesCase : Asked → Type 0
-TakesCase (task_on_case form task) = Unit {0}
+TakesCase (task_on_case format task) = Unit {0}
 TakesCase (catalogue graph) = ⊥
-TakesCase (check form file) = Unit {0}
+TakesCase (check format file) = Unit {0}
 TakesCase (sample size seed) = ⊥
 TakesCase help = ⊥
 
 -- a command reads a proof, after a case that it can take
 unfoldable pub TakesProof : Asked → Option (List ℕ) → Type 0
-TakesProof (task_on_case form task) case = ⊥
+TakesProof (task_on_case format task) case = ⊥
 TakesProof (catalogue graph) case = ⊥
-TakesProof (check form file) case = IsCheckable form case
+TakesProof (check format file) case = IsCheckable format case
 TakesProof (sample size seed) case = ⊥
 TakesProof help case = ⊥
 
 -- a command that reads a proof can't take the case before it
 unfoldable pub StopsAtCase : Asked → Option (List ℕ) → Type 0
-StopsAtCase (task_on_case form task) case = ⊥
+StopsAtCase (task_on_case format task) case = ⊥
 StopsAtCase (catalogue graph) case = ⊥
-StopsAtCase (check form file) case = IsUncheckable form case
+StopsAtCase (check format file) case = IsUncheckable format case
 StopsAtCase (sample size seed) case = ⊥
 StopsAtCase help case = ⊥
 

@@ -81,18 +81,18 @@ pub record ReportsStagedTest (c : Content) (text : List ℕ) : Type 0 where
   pub are_looks : AreLooks c looks
   pub named : (j : ℕ) → (is_settled looks j ≡ true) ↔ IsStagedRejectedIn c (arrivals_of c.inputs) j
 
--- the bytes say, in a form, a draft without a fault, and the text reports something of its case
-pub record ReportsCase (Reports : Content → List ℕ → Type 0) (form : Written) (bytes text : List ℕ) : Type 0 where
+-- the bytes say, in a format, a draft without a fault, and the text reports something of its case
+pub record ReportsCase (Reports : Content → List ℕ → Type 0) (format : Written) (bytes text : List ℕ) : Type 0 where
   pub draft : Draft
-  pub says : (grammar form bytes).Gives draft
+  pub says : (grammar format bytes).Gives draft
   pub faultless : case_fault draft ≡ None
   pub reports : Reports (content_of draft) text
 
 -- what words that ask for `test` are answered with status 0, by any priority, reports the closed test on the case
 abbrev pub ReportsAreOfTheClosedTest : Type 0
-ReportsAreOfTheClosedTest = (words : List (List ℕ)) (form : Written) (priority : Priority) (case : List ℕ) (proof : Option (List ℕ)) (a : Answer)
-    → AskFor words (on_case form (Test priority)) → IsAnswerOf (outcome words (Some case) proof) a → a.status ≡ Done
-    → ReportsCase (ReportsClosedTest priority) form case a.text
+ReportsAreOfTheClosedTest = (words : List (List ℕ)) (format : Written) (priority : Priority) (case : List ℕ) (proof : Option (List ℕ)) (a : Answer)
+    → AskFor words (on_case format (Test priority)) → IsAnswerOf (outcome words (Some case) proof) a → a.status ≡ Done
+    → ReportsCase (ReportsClosedTest priority) format case a.text
 
 -- what words that ask for `sample` are answered with status 0 reports the closed test on the sampled case
 abbrev pub SamplesAreOfTheClosedTest : Type 0
@@ -102,9 +102,9 @@ SamplesAreOfTheClosedTest = (words : List (List ℕ)) (size seed : ℕ) (case pr
 
 -- what words that ask for `stages` are answered with status 0 reports the staged closed test on the case
 abbrev pub ReportsAreOfTheStagedTest : Type 0
-ReportsAreOfTheStagedTest = (words : List (List ℕ)) (form : Written) (case : List ℕ) (proof : Option (List ℕ)) (a : Answer)
-    → AskFor words (on_case form Stages) → IsAnswerOf (outcome words (Some case) proof) a → a.status ≡ Done
-    → ReportsCase ReportsStagedTest form case a.text
+ReportsAreOfTheStagedTest = (words : List (List ℕ)) (format : Written) (case : List ℕ) (proof : Option (List ℕ)) (a : Answer)
+    → AskFor words (on_case format Stages) → IsAnswerOf (outcome words (Some case) proof) a → a.status ≡ Done
+    → ReportsCase ReportsStagedTest format case a.text
 
 -- the hypotheses of steps and of keeps, in their order
 abbrev pub stepped : List StepParts → List ℕ
@@ -127,9 +127,9 @@ pub record PrintsEvidence (c : Content) (text : List ℕ) : Type 0 where
 
 -- what words that ask for `evidence` are answered with status 0, by any priority, is such evidence of the case
 abbrev pub EvidenceIsOfTheClosedTest : Type 0
-EvidenceIsOfTheClosedTest = (words : List (List ℕ)) (form : Written) (priority : Priority) (case : List ℕ) (proof : Option (List ℕ)) (a : Answer)
-    → AskFor words (on_case form (EvidenceTask priority)) → IsAnswerOf (outcome words (Some case) proof) a → a.status ≡ Done
-    → ReportsCase PrintsEvidence form case a.text
+EvidenceIsOfTheClosedTest = (words : List (List ℕ)) (format : Written) (priority : Priority) (case : List ℕ) (proof : Option (List ℕ)) (a : Answer)
+    → AskFor words (on_case format (EvidenceTask priority)) → IsAnswerOf (outcome words (Some case) proof) a → a.status ≡ Done
+    → ReportsCase PrintsEvidence format case a.text
 
 -- The text is the report of the evidence for a case that a proof denotes, to which the check says yes. Its steps are a legal order of hypotheses that
 -- the closed test rejects. In version 2 they are all that it rejects, and the evidence keeps exactly the others.
@@ -146,6 +146,6 @@ pub record ReportsEvidence (c : Content) (proof text : List ℕ) : Type 0 where
 
 -- what words that ask for `check` are answered with status 0 lists only hypotheses that the closed test rejects, and in version 2 all of them
 abbrev pub ChecksAreOfTheClosedTest : Type 0
-ChecksAreOfTheClosedTest = (words : List (List ℕ)) (form : Written) (file : ℕ) (case proof : List ℕ) (a : Answer)
-    → AskFor words (check form file) → IsAnswerOf (outcome words (Some case) (Some proof)) a → a.status ≡ Done
-    → ReportsCase (λ c. ReportsEvidence c proof) form case a.text
+ChecksAreOfTheClosedTest = (words : List (List ℕ)) (format : Written) (file : ℕ) (case proof : List ℕ) (a : Answer)
+    → AskFor words (check format file) → IsAnswerOf (outcome words (Some case) (Some proof)) a → a.status ≡ Done
+    → ReportsCase (λ c. ReportsEvidence c proof) format case a.text

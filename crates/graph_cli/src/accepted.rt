@@ -16,7 +16,7 @@ use answers::{Stop, take_whole};
 use case_csv::{CsvFault, read_csv};
 use case_json::read_json;
 use case_model::Case;
-use command_words::CaseForm;
+use command_words::CaseFormat;
 use edge_text::{TextFault, read_text};
 use fraction::Fraction;
 use graph_io::Source;
@@ -67,14 +67,14 @@ fn json_case(alloc: Global, bytes: &[u8]) -> Result<Case, Stop>
     }
 }
 
-/// Returns the case that bytes say in a form.
-fn read_case(alloc: Global, form: &CaseForm, bytes: &[u8]) -> Result<Case, Stop>
-    ensures { EndsIn (over_values (seen_by content (case_in (written form.now) bytes.now))) result }
+/// Returns the case that bytes say in a format.
+fn read_case(alloc: Global, format: &CaseFormat, bytes: &[u8]) -> Result<Case, Stop>
+    ensures { EndsIn (over_values (seen_by content (case_in (written format.now) bytes.now))) result }
 {
-    match form {
-        CaseForm::Text => text_case(alloc, bytes),
-        CaseForm::Csv(alpha) => csv_case(alloc, *alpha, bytes),
-        CaseForm::Json => json_case(alloc, bytes),
+    match format {
+        CaseFormat::Text => text_case(alloc, bytes),
+        CaseFormat::Csv(alpha) => csv_case(alloc, *alpha, bytes),
+        CaseFormat::Json => json_case(alloc, bytes),
     }
 }
 
@@ -91,21 +91,21 @@ fn suitable(case: &Case, needs: Needs) -> Result<(), Trouble>
     Ok(())
 }
 
-/// Returns the case that a source says in a form, if a command with these needs can take it. Of a source that isn't read to its
+/// Returns the case that a source says in a format, if a command with these needs can take it. Of a source that isn't read to its
 /// end, at most one byte more than it may have is taken.
 pub fn accepted_case<S: Source>(
     alloc: Global,
-    form: &CaseForm,
+    format: &CaseFormat,
     needs: Needs,
     source: &mut S,
 ) -> Result<Case, Stop>
-    ensures ends { EndsIn (over_reading (seen_by content (accepted (written form.now) needs (S.left source.old)))
+    ensures ends { EndsIn (over_reading (seen_by content (accepted (written format.now) needs (S.left source.old)))
         (reading S.Source source.old) (reading S.Source source.new)) result }
     ensures end { OnOk result (IsAtEnd (S.left source.new)) }
     ensures taken { IsTakenWithin S.left S.calls source.old source.new }
 {
     let bytes = take_whole(alloc, b"", source)?;
-    let case = read_case(alloc, form, bytes.as_slice())?;
+    let case = read_case(alloc, format, bytes.as_slice())?;
     match suitable(&case, needs) {
         Ok(()) => Ok(case),
         Err(trouble) => Err(trouble.stop(alloc, &case)),

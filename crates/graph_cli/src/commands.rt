@@ -51,7 +51,7 @@ use crate::needs::Needs;
 use crate::trouble::{Trouble, ending_of};
 use answers::{Answer, Stop, take_whole};
 use case_model::Case;
-use command_words::{CaseForm, CaseTask, Command};
+use command_words::{CaseFormat, CaseTask, Command};
 use graph_io::Source;
 use std::alloc::Global;
 
@@ -85,7 +85,7 @@ fn case_answer(alloc: Global, task: CaseTask, case: &Case) -> Result<Answer, Tro
         CaseTask::Simes => simes_answer(alloc, case),
         CaseTask::Evidence(priority) => evidence_answer(alloc, case, priority),
         CaseTask::Stages => stages_answer(alloc, case),
-        CaseTask::Canon(form) => canon_answer(alloc, case, form),
+        CaseTask::Canon(format) => canon_answer(alloc, case, format),
     }
 }
 
@@ -93,16 +93,16 @@ fn case_answer(alloc: Global, task: CaseTask, case: &Case) -> Result<Answer, Tro
 #[tactic(auto, unfolding(crate::specs::Commands::case_call))]
 fn case_call<S: Source>(
     alloc: Global,
-    form: &CaseForm,
+    format: &CaseFormat,
     task: CaseTask,
     source: &mut S,
 ) -> Result<Answer, Stop>
-    ensures ends { EndsIn (over_reading (case_call (written form.now) task (S.left source.old))
+    ensures ends { EndsIn (over_reading (case_call (written format.now) task (S.left source.old))
         (reading S.Source source.old) (reading S.Source source.new)) result }
     ensures end { OnOk result (IsAtEnd (S.left source.new)) }
     ensures taken { IsTakenWithin S.left S.calls source.old source.new }
 {
-    let case = accepted_case(alloc, form, needs_of(task), source)?;
+    let case = accepted_case(alloc, format, needs_of(task), source)?;
     ending_of(alloc, &case, case_answer(alloc, task, &case))
 }
 
@@ -118,21 +118,21 @@ fn check_needs() -> Needs
 #[tactic(auto, using(crate::proofs::Taken::untouched), unfolding(crate::specs::Commands::check_call, crate::specs::Commands::check_needs))]
 fn check_call<S: Source, T: Source>(
     alloc: Global,
-    form: &CaseForm,
+    format: &CaseFormat,
     case: &mut S,
     proof: &mut T,
 ) -> Result<Answer, Stop>
-    ensures ends { EndsIn (check_ways (written form.now) (reading S.Source case.old) (reading S.Source case.new)
+    ensures ends { EndsIn (check_ways (written format.now) (reading S.Source case.old) (reading S.Source case.new)
         (reading T.Source proof.old) (reading T.Source proof.new)) result }
     ensures case_end { OnOk result (IsAtEnd (S.left case.new)) }
-    ensures proof_kept { ¬ IsCheckable (written form.now) (S.left case.old) → proof.new ≡ proof.old }
+    ensures proof_kept { ¬ IsCheckable (written format.now) (S.left case.old) → proof.new ≡ proof.old }
     ensures proof_end { OnOk result (IsAtEnd (T.left proof.new)) }
-    ensures proof_asked { ¬ IsUncheckable (written form.now) (S.left case.old) →
+    ensures proof_asked { ¬ IsUncheckable (written format.now) (S.left case.old) →
         IfConcluded (T.calls proof.old < T.calls proof.new) result }
     ensures case_taken { IsTakenWithin S.left S.calls case.old case.new }
     ensures proof_taken { IsTakenWithin T.left T.calls proof.old proof.new }
 {
-    let accepted = accepted_case(alloc, form, check_needs(), case)?;
+    let accepted = accepted_case(alloc, format, check_needs(), case)?;
     let bytes = take_whole(alloc, b"proof ", proof)?;
     let answer = check_answer(alloc, &accepted, bytes.as_slice());
     ending_of(alloc, &accepted, answer)
@@ -159,9 +159,9 @@ pub fn call<S: Source, T: Source>(
     ensures proof_taken { IsTakenWithin T.left T.calls proof.old proof.new }
 {
     match command {
-        Command::OnCase(form, task) => case_call(alloc, form, *task, case),
+        Command::OnCase(format, task) => case_call(alloc, format, *task, case),
         Command::Catalogue(graph) => catalogue_answer(alloc, *graph),
-        Command::Check { form, .. } => check_call(alloc, form, case, proof),
+        Command::Check { format, .. } => check_call(alloc, format, case, proof),
         Command::Sample { size, seed } => sample_answer(alloc, *size, *seed),
         Command::Help => Ok(help_answer(alloc)?),
     }

@@ -28,7 +28,7 @@ pub enum Run {
 /// Why a command answers nothing to a case.
 #[derive(Clone, Copy, PartialEq, Eq, Debug)]
 pub enum Trouble {
-    /// The p-values aren't of the kind that it needs, or no document of the form can hold them.
+    /// The p-values aren't of the kind that it needs, or no document of the format can hold them.
     Kind,
     /// There are this number of hypotheses, more than it takes.
     Closure(u64),

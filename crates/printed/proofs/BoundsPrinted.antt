@@ -51,4 +51,4 @@ unfolding answers_on_case bounds_stage
 bounds_report a c v g = reported c a.text (subst (ReportsBounds c) (sym (ap (λ (x : Answer). x.text) g.2)) g.1.1)
 
 pub bounds_of_test : BoundsAreOfTheClosedTest
-bounds_of_test words form case proof a asks h z = reports_case ReportsSetBounds words form Bounds case proof a (bounds_report a) asks h z
+bounds_of_test words format case proof a asks h z = reports_case ReportsSetBounds words format Bounds case proof a (bounds_report a) asks h z

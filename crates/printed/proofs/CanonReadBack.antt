@@ -18,8 +18,8 @@ use Rattle.case_model.specs.Validity.{IsValidContent}
 use Rattle.case_model.specs.declared.draft.Draft.{Draft}
 use Rattle.command_words.specs.Asked.{Written, text, csv, json, on_case}
 use Rattle.command_words.specs.declared.command.CaseTask.TheVariants.{Canon}
-use Rattle.command_words.specs.declared.form.Form.{Form}
-use Rattle.command_words.specs.declared.form.Form.TheVariants.{Text, Csv, Json}
+use Rattle.command_words.specs.declared.format.Format.{Format}
+use Rattle.command_words.specs.declared.format.Format.TheVariants.{Text, Csv, Json}
 use Rattle.edge_text.proofs.CanonicalCases.{canonical_reads_back}
 use Rattle.edge_text.proofs.TextLaws as texts
 use Rattle.edge_text.specs.CanonicalText.{canonical_text}
@@ -36,7 +36,7 @@ use Rattle.printed.proofs.WholeTexts.{text_whole, sheet_draft_whole}
 
 -- ---- one reading
 
-one_draft : (form : Written) (bytes : List ℕ) (d e : Draft) → (grammar form bytes).Gives d → (grammar form bytes).Gives e → d ≡ e
+one_draft : (format : Written) (bytes : List ℕ) (d e : Draft) → (grammar format bytes).Gives d → (grammar format bytes).Gives e → d ≡ e
 one_draft text bytes d e h k = texts.one_draft bytes d e h k
 one_draft (csv alpha) bytes d e h k =
     let same = same_ratio h.0 k.0 (h.1 ∙ sym k.1) in
@@ -45,24 +45,24 @@ one_draft json bytes d e h k =
     same_value d e (sym h.2 ∙ ap document_of (one_some (read bytes) h.0 k.0 h.1.1 k.1.1) ∙ k.2)
 
 -- bytes say at most one case
-pub one_content : (form : Written) (bytes : List ℕ) (c d : Content) → (case_in form bytes).Gives c → (case_in form bytes).Gives d → c ≡ d
-one_content form bytes c d h k = h.2.1 ∙ ap content_of (one_draft form bytes h.0 k.0 h.1 k.1) ∙ sym k.2.1
+pub one_content : (format : Written) (bytes : List ℕ) (c d : Content) → (case_in format bytes).Gives c → (case_in format bytes).Gives d → c ≡ d
+one_content format bytes c d h k = h.2.1 ∙ ap content_of (one_draft format bytes h.0 k.0 h.1 k.1) ∙ sym k.2.1
 
 -- what bytes say has edges with a coefficient for each power
-draft_whole : (form : Written) (bytes : List ℕ) (d : Draft) → (grammar form bytes).Gives d → IsWhole d
+draft_whole : (format : Written) (bytes : List ℕ) (d : Draft) → (grammar format bytes).Gives d → IsWhole d
 draft_whole text bytes d h = text_whole bytes d h
 draft_whole (csv alpha) bytes d h = sheet_draft_whole (cells_of bytes) h.0 d h.2
 draft_whole json bytes d h = json_whole bytes d h
 
 -- ---- what is printed
 
--- the text of a case in a form
-abbrev text_in : Form → Content → List ℕ
+-- the text of a case in a format
+abbrev text_in : Format → Content → List ℕ
 text_in Text c = canonical_text c
 text_in Csv c = sheet_text c
 text_in Json c = json_text c
 
-text_is : (to : Form) (c : Content) (a : Answer) → (canon_stage to c).Gives a → a.text ≡ text_in to c
+text_is : (to : Format) (c : Content) (a : Answer) → (canon_stage to c).Gives a → a.text ≡ text_in to c
 unfolding canon_stage sheet_stage
 text_is Text c a g = ap (λ (x : Answer). x.text) g
 text_is Csv c a g = ap (λ (x : Answer). x.text) g.1
@@ -74,7 +74,7 @@ module _ (c : Content) (v : IsValidContent c) (h : has_coefficients c.components
       let k = canonical_reads_back (record { names = c.names; alpha = c.alpha; components = c.components; inputs = c.inputs; valid = v; coefficients = h }) in
       (k.draft, k.says, (k.faultless, k.content_is))
 
-  canon_read : (to : Form) (a : Answer) → (canon_stage to c).Gives a → (case_in (read_again to c) (text_in to c)).Gives c
+  canon_read : (to : Format) (a : Answer) → (canon_stage to c).Gives a → (case_in (read_again to c) (text_in to c)).Gives c
   unfolding canon_stage sheet_stage
   canon_read Text a g = text_read
   canon_read Csv a g =
@@ -85,56 +85,56 @@ module _ (c : Content) (v : IsValidContent c) (h : has_coefficients c.components
       (k.draft, k.says, (k.faultless, k.content_is))
 
 -- a text that is read as a case is read as no other
-pub read_as : (to : Form) (c : Content) (printed : List ℕ) → (case_in (read_again to c) printed).Gives c → IsReadAs to c printed
+pub read_as : (to : Format) (c : Content) (printed : List ℕ) → (case_in (read_again to c) printed).Gives c → IsReadAs to c printed
 read_as to c printed g = record { reads = g; only = λ d k. one_content (read_again to c) printed d c k g }
 
 -- ---- the laws
 
 -- the bytes say a case, and this is its text
-abbrev Prints : Form → Answer → Content → List ℕ → Type 0
+abbrev Prints : Format → Answer → Content → List ℕ → Type 0
 Prints to a c printed = (canon_stage to c).Gives a
 
-prints_case : (words : List (List ℕ)) (form : Written) (to : Form) (bytes : List ℕ) (proof : Option (List ℕ)) (a : Answer)
-    → AskFor words (on_case form (Canon to)) → IsAnswerOf (outcome words (Some bytes) proof) a → a.status ≡ Done
-    → ReportsCase (Prints to a) form bytes a.text
+prints_case : (words : List (List ℕ)) (format : Written) (to : Format) (bytes : List ℕ) (proof : Option (List ℕ)) (a : Answer)
+    → AskFor words (on_case format (Canon to)) → IsAnswerOf (outcome words (Some bytes) proof) a → a.status ≡ Done
+    → ReportsCase (Prints to a) format bytes a.text
 unfolding answers_on_case
-prints_case words form to bytes proof a asks h z = reports_case (Prints to a) words form (Canon to) bytes proof a (λ c v g. g) asks h z
+prints_case words format to bytes proof a asks h z = reports_case (Prints to a) words format (Canon to) bytes proof a (λ c v g. g) asks h z
 
-printed_read : (form : Written) (to : Form) (bytes : List ℕ) (a : Answer) (r : ReportsCase (Prints to a) form bytes a.text)
+printed_read : (format : Written) (to : Format) (bytes : List ℕ) (a : Answer) (r : ReportsCase (Prints to a) format bytes a.text)
     → IsReadAs to (content_of r.draft) a.text
-printed_read form to bytes a r =
+printed_read format to bytes a r =
     let c = content_of r.draft in
-    let valid = faultless_content r.draft r.faultless (known_arrivals form bytes r.draft r.says) in
-    let whole = whole_content r.draft (draft_whole form bytes r.draft r.says) in
+    let valid = faultless_content r.draft r.faultless (known_arrivals format bytes r.draft r.says) in
+    let whole = whole_content r.draft (draft_whole format bytes r.draft r.says) in
     read_as to c a.text (subst (λ t. (case_in (read_again to c) t).Gives c) (sym (text_is to c a r.reports)) (canon_read c valid whole to a r.reports))
 
 pub canon_reads_back : CanonIsReadAsTheCase
-canon_reads_back words form to bytes proof a asks h z =
-    let r = prints_case words form to bytes proof a asks h z in
-    record { draft = r.draft; says = r.says; faultless = r.faultless; reports = printed_read form to bytes a r }
+canon_reads_back words format to bytes proof a asks h z =
+    let r = prints_case words format to bytes proof a asks h z in
+    record { draft = r.draft; says = r.says; faultless = r.faultless; reports = printed_read format to bytes a r }
 
-same_reading : (to : Form) (c d : Content) → LevelsAgree to c d → read_again to c ≡ read_again to d
+same_reading : (to : Format) (c d : Content) → LevelsAgree to c d → read_again to c ≡ read_again to d
 same_reading Text c d e = refl
 same_reading Csv c d e = ap (λ x. csv (terms x)) e
 same_reading Json c d e = refl
 
 -- the case that bytes say is that of the draft which they say
-said_case : (form : Written) (bytes : List ℕ) (to : Form) (a : Answer) (c : Content) (r : ReportsCase (Prints to a) form bytes a.text)
-    → (case_in form bytes).Gives c → content_of r.draft ≡ c
-said_case form bytes to a c r g = one_content form bytes (content_of r.draft) c (r.draft, r.says, (r.faultless, refl)) g
+said_case : (format : Written) (bytes : List ℕ) (to : Format) (a : Answer) (c : Content) (r : ReportsCase (Prints to a) format bytes a.text)
+    → (case_in format bytes).Gives c → content_of r.draft ≡ c
+said_case format bytes to a c r g = one_content format bytes (content_of r.draft) c (r.draft, r.says, (r.faultless, refl)) g
 
 pub canon_apart : CanonTellsCasesApart
-canon_apart words others form other_form to bytes other proof other_proof a b c d asks other_asks h k z y g f =
-    let r = prints_case words form to bytes proof a asks h z in
-    let s = prints_case others other_form to other other_proof b other_asks k y in
-    let one = said_case form bytes to a c r g in
-    let two = said_case other_form other to b d s f in
-    let first = subst (λ x. (case_in (read_again to x) a.text).Gives x) one (printed_read form to bytes a r).reads in
-    let second = subst (λ x. (case_in (read_again to x) b.text).Gives x) two (printed_read other_form to other b s).reads in
+canon_apart words others format other_format to bytes other proof other_proof a b c d asks other_asks h k z y g f =
+    let r = prints_case words format to bytes proof a asks h z in
+    let s = prints_case others other_format to other other_proof b other_asks k y in
+    let one = said_case format bytes to a c r g in
+    let two = said_case other_format other to b d s f in
+    let first = subst (λ x. (case_in (read_again to x) a.text).Gives x) one (printed_read format to bytes a r).reads in
+    let second = subst (λ x. (case_in (read_again to x) b.text).Gives x) two (printed_read other_format to other b s).reads in
     let printed = text_is to (content_of r.draft) a r.reports in
     let printed_also = text_is to (content_of s.draft) b s.reports in
     record {
       same_text = λ e. printed ∙ ap (text_in to) (one ∙ e ∙ sym two) ∙ sym printed_also;
       same_case = λ levels e. one_content (read_again to d) b.text c d
-          (subst (λ t. (case_in (read_again to d) t).Gives c) e (subst (λ form. (case_in form a.text).Gives c) (same_reading to c d levels) first)) second;
+          (subst (λ t. (case_in (read_again to d) t).Gives c) e (subst (λ format. (case_in format a.text).Gives c) (same_reading to c d levels) first)) second;
     }

@@ -4,7 +4,7 @@ use Rattle.fraction.specs.View.{number_of}
 use Rattle.answers.specs.declared.answer.Answer.{Answer}
 use Rattle.catalogue.proofs.RatiosOf.{part_value}
 use Rattle.command_words.specs.Asked.{text, catalogue}
-use Rattle.command_words.specs.declared.form.Form.TheVariants.{Text}
+use Rattle.command_words.specs.declared.format.Format.TheVariants.{Text}
 use Rattle.command_words.specs.declared.graph_name.SizedGraph.{SizedGraph}
 use Rattle.command_words.specs.Words.{asked_in}
 use Rattle.command_words.proofs.Readings.{stage_decided}

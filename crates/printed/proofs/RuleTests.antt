@@ -46,34 +46,34 @@ is_done priority c a g = ap (λ (x : Answer). x.status) g.2.2
 module _ (Rejects : ℕ → Type 0) (c : Content) (ps : List Ratio) (single : c.inputs ≡ Values ps) (few : length c.names ≤ 64)
     (rejects : (j : ℕ) → IsRejectedIn c j ↔ Rejects j) (never_wide : IsNeverWide c) where
   -- a case with a p-value for each of at most 64 hypotheses is one that `test` can take
-  taken : (form : Written) (priority : Priority) (bytes : List ℕ) → (case_in form bytes).Gives c → length bytes ≤ most_bytes
-      → (accepted form (needs_of (Test priority)) (Some bytes)).Gives c
+  taken : (format : Written) (priority : Priority) (bytes : List ℕ) → (case_in format bytes).Gives c → length bytes ≤ most_bytes
+      → (accepted format (needs_of (Test priority)) (Some bytes)).Gives c
   unfolding needs_of
-  taken form priority bytes g within =
+  taken format priority bytes g within =
       (bytes, (refl, within), (c, g, (c, (subst (λ i. IsOfKind Single i) (sym single) tt, refl), (few, refl))))
 
-  call_not_refused : (form : Written) (priority : Priority) (bytes : List ℕ) (r : Refusal)
-      → (accepted form (needs_of (Test priority)) (Some bytes)).Gives c → (case_call form (Test priority) (Some bytes)).Refuses r → ⊥
+  call_not_refused : (format : Written) (priority : Priority) (bytes : List ℕ) (r : Refusal)
+      → (accepted format (needs_of (Test priority)) (Some bytes)).Gives c → (case_call format (Test priority) (Some bytes)).Refuses r → ⊥
   unfolding case_call
-  call_not_refused form priority bytes r takes (inl h) = (accepted_decided form (needs_of (Test priority)) bytes).not_both c r takes h
-  call_not_refused form priority bytes r takes (inr h) =
-      let same = (accepted_decided form (needs_of (Test priority)) bytes).one h.0 c h.1 takes in
+  call_not_refused format priority bytes r takes (inl h) = (accepted_decided format (needs_of (Test priority)) bytes).not_both c r takes h
+  call_not_refused format priority bytes r takes (inr h) =
+      let same = (accepted_decided format (needs_of (Test priority)) bytes).one h.0 c h.1 takes in
       never_refused priority c h.2.0 never_wide (subst (λ x. (answers_on_case (Test priority) x).Refuses h.2.0) same h.2.1)
 
-  not_refused : (words : List (List ℕ)) (form : Written) (priority : Priority) (bytes : List ℕ) (proof : Option (List ℕ)) (r : Refusal)
-      → (accepted form (needs_of (Test priority)) (Some bytes)).Gives c
-      → AskFor words (on_case form (Test priority)) → (outcome words (Some bytes) proof).Refuses r → ⊥
+  not_refused : (words : List (List ℕ)) (format : Written) (priority : Priority) (bytes : List ℕ) (proof : Option (List ℕ)) (r : Refusal)
+      → (accepted format (needs_of (Test priority)) (Some bytes)).Gives c
+      → AskFor words (on_case format (Test priority)) → (outcome words (Some bytes) proof).Refuses r → ⊥
   unfolding call_of
-  not_refused words form priority bytes proof r takes asks (inl h) = (stage_decided (asked_in words)).not_both (on_case form (Test priority)) h.0 asks h.1
-  not_refused words form priority bytes proof r takes asks (inr h) =
-      let command_is = (stage_decided (asked_in words)).one h.0 (on_case form (Test priority)) h.1 asks in
-      call_not_refused form priority bytes r takes (subst (λ command. (call_of command (Some bytes) proof).Refuses r) command_is h.2)
+  not_refused words format priority bytes proof r takes asks (inl h) = (stage_decided (asked_in words)).not_both (on_case format (Test priority)) h.0 asks h.1
+  not_refused words format priority bytes proof r takes asks (inr h) =
+      let command_is = (stage_decided (asked_in words)).one h.0 (on_case format (Test priority)) h.1 asks in
+      call_not_refused format priority bytes r takes (subst (λ command. (call_of command (Some bytes) proof).Refuses r) command_is h.2)
 
-  given_done : (words : List (List ℕ)) (form : Written) (priority : Priority) (bytes : List ℕ) (proof : Option (List ℕ)) (a : Answer)
-      → AskFor words (on_case form (Test priority)) → (outcome words (Some bytes) proof).Gives a → a.status ≡ Done
+  given_done : (words : List (List ℕ)) (format : Written) (priority : Priority) (bytes : List ℕ) (proof : Option (List ℕ)) (a : Answer)
+      → AskFor words (on_case format (Test priority)) → (outcome words (Some bytes) proof).Gives a → a.status ≡ Done
   unfolding call_of case_call
-  given_done words form priority bytes proof a asks h =
-      let command_is = (stage_decided (asked_in words)).one h.0 (on_case form (Test priority)) h.1 asks in
+  given_done words format priority bytes proof a asks h =
+      let command_is = (stage_decided (asked_in words)).one h.0 (on_case format (Test priority)) h.1 asks in
       let gives = subst (λ command. (call_of command (Some bytes) proof).Gives a) command_is h.2 in
       is_done priority gives.0 a gives.2
 
@@ -87,15 +87,15 @@ module _ (Rejects : ℕ → Type 0) (c : Content) (ps : List Ratio) (single : c.
     values = R.values;
   }
 
-  pub tested : (words : List (List ℕ)) (form : Written) (priority : Priority) (bytes : List ℕ) (proof : Option (List ℕ)) (a : Answer)
-      → (case_in form bytes).Gives c → length bytes ≤ most_bytes → AskFor words (on_case form (Test priority))
+  pub tested : (words : List (List ℕ)) (format : Written) (priority : Priority) (bytes : List ℕ) (proof : Option (List ℕ)) (a : Answer)
+      → (case_in format bytes).Gives c → length bytes ≤ most_bytes → AskFor words (on_case format (Test priority))
       → IsAnswerOf (outcome words (Some bytes) proof) a → (a.status ≡ Done) × ReportsRule Rejects priority c a.text
-  tested words form priority bytes proof a g within asks (inr h) =
-      absurd (not_refused words form priority bytes proof h.0 (taken form priority bytes g within) asks h.1)
-  tested words form priority bytes proof a g within asks (inl h) =
-      let done = given_done words form priority bytes proof a asks h in
-      let r = reports_closed_test words form priority bytes proof a asks (inl h) done in
-      let same = one_content form bytes (content_of r.draft) c (r.draft, r.says, (r.faultless, refl)) g in
+  tested words format priority bytes proof a g within asks (inr h) =
+      absurd (not_refused words format priority bytes proof h.0 (taken format priority bytes g within) asks h.1)
+  tested words format priority bytes proof a g within asks (inl h) =
+      let done = given_done words format priority bytes proof a asks h in
+      let r = reports_closed_test words format priority bytes proof a asks (inl h) done in
+      let same = one_content format bytes (content_of r.draft) c (r.draft, r.says, (r.faultless, refl)) g in
       (done, rule_reported priority a.text (subst (λ x. ReportsClosedTest priority x a.text) same r.reports))
 
 -- ---- a case without p-values, by whatever p-values
@@ -104,8 +104,8 @@ module _ (Rejects : (ℕ → Number) → ℕ → Type 0) (c : Content) (few : le
     (rejects : (ps : List Ratio) → ArePValues (length c.names) ps → (j : ℕ) → IsRejectedIn (with_p c ps) j ↔ Rejects (number_at ps) j)
     (never_wide : (ps : List Ratio) → ArePValues (length c.names) ps → IsNeverWide (with_p c ps)) where
   tested_by : IsTestedBy Rejects c
-  tested_by words form priority bytes proof ps a P g within asks h =
-      tested (Rejects (number_at ps)) (with_p c ps) ps refl few (rejects ps P) (never_wide ps P) words form priority bytes proof a g within asks h
+  tested_by words format priority bytes proof ps a P g within asks h =
+      tested (Rejects (number_at ps)) (with_p c ps) ps refl few (rejects ps P) (never_wide ps P) words format priority bytes proof a g within asks h
 
   pub decides_by : DecidesBy Rejects c
   decides_by = record { rejects = rejects; never_wide = never_wide; tested = tested_by }

@@ -28,8 +28,8 @@ use Rattle.printed.specs.Rules.{over, HolmGraphsAreTestedByHolm, SequencesAreTes
 use Rattle.printed.proofs.RuleTests.{tested}
 
 -- a case that bytes denote is valid
-given_valid : (form : Written) (bytes : List ℕ) (c : Content) → (case_in form bytes).Gives c → IsValidContent c
-given_valid form bytes c g = subst IsValidContent (sym g.2.1) (faultless_content g.0 g.2.0 (known_arrivals form bytes g.0 g.1))
+given_valid : (format : Written) (bytes : List ℕ) (c : Content) → (case_in format bytes).Gives c → IsValidContent c
+given_valid format bytes c g = subst IsValidContent (sym g.2.1) (faultless_content g.0 g.2.0 (known_arrivals format bytes g.0 g.1))
 
 module _ (c : Content) (ps : List Ratio) (single : c.inputs ≡ Single ps) (V : IsValidContent c) where
   low : number_zero ≤ε number_of c.alpha
@@ -47,34 +47,34 @@ module _ (c : Content) (ps : List Ratio) (single : c.inputs ≡ Single ps) (V : 
       (λ h. (law j).0 (subst (λ T. T) is h), λ h. subst (λ T. T) (sym is) ((law j).1 h))
 
 pub holm_tested : HolmGraphsAreTestedByHolm
-holm_tested words form priority bytes proof c ps a g within single plain A asks h =
-    let V = given_valid form bytes c g in
+holm_tested words format priority bytes proof c ps a g within single plain A asks h =
+    let V = given_valid format bytes c g in
     tested _ c ps single (shape c V).few
     (in_case c ps single V (λ n j. IsHolmRejected (number_at ps) (number_of c.alpha) n j)
     (holm_decides (number_at ps) (number_of c.alpha) (entangled c) (valid_content c V) A (low c ps single V)))
-    (holm_decisions c V plain A) words form priority bytes proof a g within asks h
+    (holm_decisions c V plain A) words format priority bytes proof a g within asks h
 
 pub sequence_tested : SequencesAreTestedInOrder
-sequence_tested words form priority bytes proof c ps a g within single plain A asks h =
-    let V = given_valid form bytes c g in
+sequence_tested words format priority bytes proof c ps a g within single plain A asks h =
+    let V = given_valid format bytes c g in
     tested _ c ps single (shape c V).few
     (in_case c ps single V (λ n j. IsSequenceRejected (number_at ps) (number_of c.alpha) n j)
     (sequence_decides (number_at ps) (number_of c.alpha) (entangled c) (valid_content c V) A (low c ps single V)))
-    (sequence_decisions c V plain A) words form priority bytes proof a g within asks h
+    (sequence_decisions c V plain A) words format priority bytes proof a g within asks h
 
 pub fallback_tested : FallbacksAreTestedByFallback
-fallback_tested w d small words form priority bytes proof c ps a g within single plain A asks h =
-    let V = given_valid form bytes c g in
+fallback_tested w d small words format priority bytes proof c ps a g within single plain A asks h =
+    let V = given_valid format bytes c g in
     tested _ c ps single (shape c V).few
     (in_case c ps single V (λ n j. IsFallbackRejected (number_at ps) (number_of c.alpha) n (over w d) j)
     (fallback_decides (number_at ps) (number_of c.alpha) (over w d) (entangled c) (valid_content c V) A
     (λ i p. limit-fraction (pos (w i)) (pos (suc d)) (λ e. omega (arith, ints))) (low c ps single V)))
-    (fallback_decisions c w d V plain small A) words form priority bytes proof a g within asks h
+    (fallback_decisions c w d V plain small A) words format priority bytes proof a g within asks h
 
 pub gates_tested : GatesAreTestedByGatekeeping
-gates_tested a b words form priority bytes proof c ps answer g within single plain A asks h =
-    let V = given_valid form bytes c g in
+gates_tested a b words format priority bytes proof c ps answer g within single plain A asks h =
+    let V = given_valid format bytes c g in
     tested _ c ps single (shape c V).few
     (in_case c ps single V (λ n j. IsGatekeepingRejected (number_at ps) (number_of c.alpha) a b j)
     (gatekeeping_decides (number_at ps) (number_of c.alpha) a b (entangled c) (valid_content c V) A (low c ps single V)))
-    (gatekeeping_decisions c a b V plain A) words form priority bytes proof answer g within asks h
+    (gatekeeping_decisions c a b V plain A) words format priority bytes proof answer g within asks h

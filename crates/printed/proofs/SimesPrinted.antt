@@ -93,4 +93,4 @@ simes_reports a c v g =
     reported c a.text (subst (ReportsSimes c) (sym text_is) (subst (λ x. ReportsSimes x tested.0) same tested.1.1))
 
 pub simes_of_test : SimesReportsAreOfTheSimesTest
-simes_of_test words form case proof a asks h z = reports_case ReportsSimesTest words form Simes case proof a (simes_reports a) asks h z
+simes_of_test words format case proof a asks h z = reports_case ReportsSimesTest words format Simes case proof a (simes_reports a) asks h z

@@ -82,11 +82,11 @@ unfolding settled_line line_in
 same_line c d looks others names settled = ap₂ (λ ns f. line_in ns f c) names (fun_ext settled)
 
 pub stages_agree : StagesAgreeInEveryOrder
-stages_agree words others form other_form case other proof other_proof a b c d asks other_asks h k z y g f D =
-    let r = reports_staged_test words form case proof a asks h z in
-    let s = reports_staged_test others other_form other other_proof b other_asks k y in
-    let one = subst (λ x. ReportsStagedTest x a.text) (one_content form case (content_of r.draft) c (r.draft, r.says, (r.faultless, refl)) g) r.reports in
-    let two = subst (λ x. ReportsStagedTest x b.text) (one_content other_form other (content_of s.draft) d (s.draft, s.says, (s.faultless, refl)) f) s.reports in
+stages_agree words others format other_format case other proof other_proof a b c d asks other_asks h k z y g f D =
+    let r = reports_staged_test words format case proof a asks h z in
+    let s = reports_staged_test others other_format other other_proof b other_asks k y in
+    let one = subst (λ x. ReportsStagedTest x a.text) (one_content format case (content_of r.draft) c (r.draft, r.says, (r.faultless, refl)) g) r.reports in
+    let two = subst (λ x. ReportsStagedTest x b.text) (one_content other_format other (content_of s.draft) d (s.draft, s.says, (s.faultless, refl)) f) s.reports in
     record {
       looks = one.looks;
       other_looks = two.looks;

@@ -18,14 +18,14 @@ use Rattle.refusals.specs.declared.wide.When.TheVariants.{Look as AfterLook}
 use Rattle.report.specs.StudyReport.{Reply, taken, shown, is_among}
 use Rattle.staged_levels.specs.declared.event.Settled.{Settled}
 use Rattle.staged_levels.specs.Studies.{StudyState, positions_of}
-use Rattle.study_answers.proofs.Answering.{records_counted}
-use Rattle.study_answers.proofs.KeptLooks.{replies_decide}
-use Rattle.study_answers.specs.Replies.{taken_in, looks_taken, IsReply, AreReplies}
-use Rattle.study_answers.specs.StudyStages.{StudyEnd, IsBrokenOff, study_stage}
+use Rattle.study_cli.proofs.Answering.{records_counted}
+use Rattle.study_cli.proofs.KeptLooks.{replies_decide}
+use Rattle.study_cli.specs.Replies.{taken_in, looks_taken, IsReply, AreReplies}
+use Rattle.study_cli.specs.StudyStages.{StudyEnd, IsBrokenOff, study_stage}
 use Rattle.study_cli.specs.StudyOutcome.{study_call}
-use Rattle.study_answers.specs.CommandLines.{AreCommands}
-use Rattle.study_answers.specs.declared.command.StudyCommand.{StudyCommand}
-use Rattle.study_answers.specs.declared.command.StudyCommand.TheVariants.{Take, Show}
+use Rattle.study_cli.specs.CommandLines.{AreCommands}
+use Rattle.study_cli.specs.declared.command.StudyCommand.{StudyCommand}
+use Rattle.study_cli.specs.declared.command.StudyCommand.TheVariants.{Take, Show}
 use Rattle.study_register.specs.Looking.{arrivals_of, AreTaken}
 use Rattle.graph_cli.proofs.ClosedReports.{known_arrivals, faultless_content, not_done}
 use Rattle.graph_cli.proofs.StagedReports.{or_again}
@@ -169,7 +169,7 @@ studies_of_test words asked case commands kept e asks h z =
     let read = gives.1.2.1 in
     let draft = read.0 in
     let content_is : c ≡ content_of draft = gives.1.2.2.2.1 ∙ (gives.1.2.2.1.1 ∙ read.2.1) in
-    let valid = subst IsValidContent (sym content_is) (faultless_content draft read.2.0 (known_arrivals asked.form _ draft read.1)) in
+    let valid = subst IsValidContent (sym content_is) (faultless_content draft read.2.0 (known_arrivals asked.format _ draft read.1)) in
     let list = gives.2.0 in
     let commands_are = gives.2.1.1.0 in
     let said = gives.2.1.2 in
@@ -178,7 +178,7 @@ studies_of_test words asked case commands kept e asks h z =
     elim (gives.2.2.2) [
       | inl a ↦ record {
         draft = draft;
-        says = subst (λ xs. (grammar asked.form xs).Gives draft) bytes_are read.1;
+        says = subst (λ xs. (grammar asked.format xs).Gives draft) bytes_are read.1;
         faultless = read.2.0;
         reports = subst (λ d. ReportsStudy d commands kept e.looks e.answer.text) content_is (record {
           list = list;

@@ -75,4 +75,4 @@ unfolding answers_on_case weights_stage
 weights_report a c v g = reported c a.text (subst (ReportsWeights c) (sym (ap (λ (x : Answer). x.text) g.2)) g.1.1)
 
 pub weights_of_intersections : WeightsAreOfTheIntersections
-weights_of_intersections words form case proof a asks h z = reports_case ReportsSetWeights words form Weights case proof a (weights_report a) asks h z
+weights_of_intersections words format case proof a asks h z = reports_case ReportsSetWeights words format Weights case proof a (weights_report a) asks h z

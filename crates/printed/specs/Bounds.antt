@@ -40,6 +40,6 @@ pub record ReportsSetBounds (c : Content) (text : List ℕ) : Type 0 where
 
 -- what words that ask for `bounds` are answered with status 0 reports the bounds of all sets of the case
 abbrev pub BoundsAreOfTheClosedTest : Type 0
-BoundsAreOfTheClosedTest = (words : List (List ℕ)) (form : Written) (case : List ℕ) (proof : Option (List ℕ)) (a : Answer)
-    → AskFor words (on_case form Bounds) → IsAnswerOf (outcome words (Some case) proof) a → a.status ≡ Done
-    → ReportsCase ReportsSetBounds form case a.text
+BoundsAreOfTheClosedTest = (words : List (List ℕ)) (format : Written) (case : List ℕ) (proof : Option (List ℕ)) (a : Answer)
+    → AskFor words (on_case format Bounds) → IsAnswerOf (outcome words (Some case) proof) a → a.status ≡ Done
+    → ReportsCase ReportsSetBounds format case a.text

@@ -34,13 +34,13 @@ pub record ReportsRule (Rejects : ℕ → Type 0) (priority : Priority) (c : Con
   pub named : (j : ℕ) → (is_rejected decision.steps j ≡ true) ↔ Rejects j
   pub values : AreAdjusted c adjusted
 
--- Bytes denote, in whatever form, a case with p-values and with fractions alone, on a graph of some kind, and aren't more than an input may have. Then
+-- Bytes denote, in whatever format, a case with p-values and with fractions alone, on a graph of some kind, and aren't more than an input may have. Then
 -- what words that ask for `test` are answered has the status 0, by any priority, and reports what a rule rejects.
 abbrev pub AreTestedBy : (Content → Type 0) → (Content → List Ratio → ℕ → Type 0) → Type 0
 AreTestedBy HasGraph Rejects =
-    (words : List (List ℕ)) (form : Written) (priority : Priority) (bytes : List ℕ) (proof : Option (List ℕ)) (c : Content) (ps : List Ratio) (a : Answer)
-    → (case_in form bytes).Gives c → length bytes ≤ most_bytes → c.inputs ≡ Single ps → is_plain c ≡ true → HasGraph c
-    → AskFor words (on_case form (Test priority)) → IsAnswerOf (outcome words (Some bytes) proof) a
+    (words : List (List ℕ)) (format : Written) (priority : Priority) (bytes : List ℕ) (proof : Option (List ℕ)) (c : Content) (ps : List Ratio) (a : Answer)
+    → (case_in format bytes).Gives c → length bytes ≤ most_bytes → c.inputs ≡ Single ps → is_plain c ≡ true → HasGraph c
+    → AskFor words (on_case format (Test priority)) → IsAnswerOf (outcome words (Some bytes) proof) a
     → (a.status ≡ Done) × ReportsRule (Rejects c ps) priority c a.text
 
 -- on Holm's graph `test` rejects what Holm's rule rejects at the level of the case

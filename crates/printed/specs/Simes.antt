@@ -52,6 +52,6 @@ pub record ReportsSimesTest (c : Content) (text : List ℕ) : Type 0 where
 
 -- what words that ask for `simes` are answered with status 0 reports the closed test of weighted Simes tests on the case
 abbrev pub SimesReportsAreOfTheSimesTest : Type 0
-SimesReportsAreOfTheSimesTest = (words : List (List ℕ)) (form : Written) (case : List ℕ) (proof : Option (List ℕ)) (a : Answer)
-    → AskFor words (on_case form Simes) → IsAnswerOf (outcome words (Some case) proof) a → a.status ≡ Done
-    → ReportsCase ReportsSimesTest form case a.text
+SimesReportsAreOfTheSimesTest = (words : List (List ℕ)) (format : Written) (case : List ℕ) (proof : Option (List ℕ)) (a : Answer)
+    → AskFor words (on_case format Simes) → IsAnswerOf (outcome words (Some case) proof) a → a.status ≡ Done
+    → ReportsCase ReportsSimesTest format case a.text

@@ -34,7 +34,7 @@ pub record RejectAlike (c d : Content) (one other : List ℕ) : Type 0 where
 -- What `stages` answers with status 0 of two cases that differ at most in the order of their arrivals, however they are written, has one line `rejected`.
 abbrev pub StagesAgreeInEveryOrder : Type 0
 StagesAgreeInEveryOrder =
-    (words others : List (List ℕ)) (form other_form : Written) (case other : List ℕ) (proof other_proof : Option (List ℕ)) (a b : Answer)
-    (c d : Content) → AskFor words (on_case form Stages) → AskFor others (on_case other_form Stages)
+    (words others : List (List ℕ)) (format other_format : Written) (case other : List ℕ) (proof other_proof : Option (List ℕ)) (a b : Answer)
+    (c d : Content) → AskFor words (on_case format Stages) → AskFor others (on_case other_format Stages)
     → IsAnswerOf (outcome words (Some case) proof) a → IsAnswerOf (outcome others (Some other) other_proof) b → a.status ≡ Done → b.status ≡ Done
-    → (case_in form case).Gives c → (case_in other_form other).Gives d → HaveSameArrivals c d → RejectAlike c d a.text b.text
+    → (case_in format case).Gives c → (case_in other_format other).Gives d → HaveSameArrivals c d → RejectAlike c d a.text b.text

@@ -8,11 +8,11 @@ use Rattle.command_words.specs.Asked.{StudyAsked}
 use Rattle.report.specs.StudyReport.{Reply, taken, shown, is_among, study_report}
 use Rattle.staged_levels.specs.declared.event.Settled.{Settled}
 use Rattle.staged_levels.specs.Studies.{StudyState}
-use Rattle.study_answers.specs.Replies.{looks_taken, AreReplies}
-use Rattle.study_answers.specs.StudyStages.{StudyEnd}
+use Rattle.study_cli.specs.Replies.{looks_taken, AreReplies}
+use Rattle.study_cli.specs.StudyStages.{StudyEnd}
 use Rattle.study_cli.specs.StudyOutcome.{study_outcome}
-use Rattle.study_answers.specs.CommandLines.{AreCommands}
-use Rattle.study_answers.specs.declared.command.StudyCommand.{StudyCommand}
+use Rattle.study_cli.specs.CommandLines.{AreCommands}
+use Rattle.study_cli.specs.declared.command.StudyCommand.{StudyCommand}
 use Rattle.study_register.specs.Looking.{arrivals_of, AreTaken}
 use Rattle.graph_cli.specs.Laws.{ReportsCase}
 use Rattle.graph_cli.specs.Outcome.{AskStudy}
@@ -47,4 +47,4 @@ pub record ReportsStudy (c : Content) (commands : List ℕ) (kept more : List Lo
 abbrev pub StudiesAreOfTheStagedTest : Type 0
 StudiesAreOfTheStagedTest = (words : List (List ℕ)) (asked : StudyAsked) (case commands : List ℕ) (kept : List Look) (e : StudyEnd)
     → AskStudy words asked → (study_outcome words (Some case) (Some commands) (Some kept)).Gives e → e.answer.status ≡ Done
-    → ReportsCase (λ c. ReportsStudy c commands kept e.looks) asked.form case e.answer.text
+    → ReportsCase (λ c. ReportsStudy c commands kept e.looks) asked.format case e.answer.text

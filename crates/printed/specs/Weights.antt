@@ -41,6 +41,6 @@ pub record ReportsSetWeights (c : Content) (text : List ℕ) : Type 0 where
 
 -- what words that ask for `weights` are answered with status 0 reports the weights of all intersections of the case
 abbrev pub WeightsAreOfTheIntersections : Type 0
-WeightsAreOfTheIntersections = (words : List (List ℕ)) (form : Written) (case : List ℕ) (proof : Option (List ℕ)) (a : Answer)
-    → AskFor words (on_case form Weights) → IsAnswerOf (outcome words (Some case) proof) a → a.status ≡ Done
-    → ReportsCase ReportsSetWeights form case a.text
+WeightsAreOfTheIntersections = (words : List (List ℕ)) (format : Written) (case : List ℕ) (proof : Option (List ℕ)) (a : Answer)
+    → AskFor words (on_case format Weights) → IsAnswerOf (outcome words (Some case) proof) a → a.status ≡ Done
+    → ReportsCase ReportsSetWeights format case a.text

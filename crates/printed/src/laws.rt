@@ -9,8 +9,8 @@ ghost use Rattle.printed.specs.Stages.{StagesAgreeInEveryOrder};
 ghost use Rattle.printed.specs.Study.{StudiesAreOfTheStagedTest};
 ghost use Rattle.printed.specs.Weights.{WeightsAreOfTheIntersections};
 
-/// What `canon` prints in a form with status 0 is read in that form as the case that was read, and as no other. Two cases
-/// have the same text in a form exactly if they are the same case; a sheet doesn't hold its level.
+/// What `canon` prints in a format with status 0 is read in that format as the case that was read, and as no other. Two cases
+/// have the same text in a format exactly if they are the same case; a sheet doesn't hold its level.
 pub fn canon_is_read_as_the_case()
     ensures back { CanonIsReadAsTheCase }
     ensures apart { CanonTellsCasesApart }

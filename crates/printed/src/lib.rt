@@ -3,8 +3,8 @@
 //! and those of `sample`, `check` and `evidence`, are in `graph_cli`.
 //!
 //! Proved, for each answer with status 0:
-//! - `canon_is_read_as_the_case`: what `canon` prints in a form is read in that form as the case that was read, and as no
-//!   other. Two cases have the same text in a form exactly if they are the same case. (A sheet doesn't hold its level.)
+//! - `canon_is_read_as_the_case`: what `canon` prints in a format is read in that format as the case that was read, and as no
+//!   other. Two cases have the same text in a format exactly if they are the same case. (A sheet doesn't hold its level.)
 //! - `simes_reports_are_of_the_simes_test`: what `simes` prints names as rejected exactly the hypotheses that the closed test
 //!   of weighted Simes tests rejects. It has one line for each set that isn't empty, with its bound by that test.
 //! - `weights_are_of_the_intersections`: what `weights` prints has one line for each set that isn't empty, with the weights

@@ -17,8 +17,8 @@ use Rattle.graph_cli.specs.Accepted.{IsOfKind}
 use Rattle.graph_cli.specs.Outcome.{AskStudy}
 use Rattle.graph_cli.specs.declared.kind.InputKind.TheVariants.{Awaited}
 use Rattle.staged_levels.specs.StudyAnswers.{IsStaged}
-use Rattle.study_answers.specs.AnswerView.{HoldSome, IsLastFailed}
-use Rattle.study_answers.specs.KeeperWays.{over_keeper}
+use Rattle.study_cli.specs.AnswerView.{HoldSome, IsLastFailed}
+use Rattle.study_cli.specs.KeeperWays.{over_keeper}
 use Rattle.study_cli.specs.StudyOutcome.{study_needs, case_of, study_call, study_outcome, IsStudied, IsOpened, MayBeKept, ReadRose, KeeperRose, MayEnd}
 
 module _ (words : List (List ℕ)) (case commands : Option (List ℕ)) (kept held : Option (List Look)) (before now : ℕ) (asked : StudyAsked) (asks : AskStudy words asked)

@@ -1,4 +1,11 @@
+pub mod Answering
 pub mod AskedStudies
+pub mod CommandReads
+pub mod CommandsReplied
+pub mod KeptLooks
+pub mod LookPlaces
+pub mod Looks
+pub mod OneEnd
 pub mod OneOutcome
 pub mod StoreValues
 pub mod StudyParts

@@ -13,9 +13,9 @@ use Rattle.text_lines.specs.Languages.{FaultAt}
 use Rattle.graph_cli.proofs.AcceptedCases.{accepted_decided}
 use Rattle.refusals.specs.TextRefusal.{commands_refusal}
 use Rattle.refusals.specs.UsageRefusal.{usage}
-use Rattle.study_answers.proofs.OneEnd.{studies_have_one_end}
-use Rattle.study_cli.specs.StudyLaws.{StudiesHaveOneOutcome}
+use Rattle.study_cli.proofs.OneEnd.{studies_have_one_end}
 use Rattle.study_cli.specs.StudyOutcome.{study_needs, commands_in, study_call}
+use Rattle.study_cli.specs.StudyStatements.{StudiesHaveOneOutcome}
 
 commands_decided : (c : Content) (bytes : List ℕ) → IsDecided (commands_in c bytes)
 commands_decided c bytes = record {
@@ -28,7 +28,7 @@ commands_decided c bytes = record {
 call_decided : (asked : StudyAsked) (case commands : List ℕ) (looks : List Look) → IsDecided (study_call asked (Some case) (Some commands) (Some looks))
 unfolding study_call
 call_decided asked case commands looks =
-    then_decided _ _ (accepted_decided asked.form study_needs case)
+    then_decided _ _ (accepted_decided asked.format study_needs case)
     (λ c. then_decided _ _ (then_decided _ _ (within_decided _ commands) (commands_decided c)) (λ list. studies_have_one_end c list looks))
 
 pub studies_have_one_outcome : StudiesHaveOneOutcome

@@ -12,12 +12,12 @@ use Rattle.answers.specs.Ways.{Ways, StopsIn, EndsIn, over_values, over_source}
 use Rattle.answers.proofs.Stopping.{value_stops, source_stops}
 use Rattle.case_model.specs.Content.{Content}
 use Rattle.command_words.specs.Asked.{StudyAsked}
-use Rattle.study_answers.specs.declared.command.StudyCommand.{StudyCommand}
-use Rattle.study_answers.specs.AnswerView.{HoldSome, IsLastFailed, MayKeep}
-use Rattle.study_answers.specs.KeeperWays.{over_keeper}
-use Rattle.study_answers.specs.StudyStages.{HasOpening, study_stage, on_looks}
-use Rattle.study_answers.proofs.Looks.{with_none}
-use Rattle.study_cli.specs.StudyOutcome.{case_of, commands_in, commands_of, study_call, IsStudied, IsOpened, MayBeKept}
+use Rattle.study_cli.specs.declared.command.StudyCommand.{StudyCommand}
+use Rattle.study_cli.specs.AnswerView.{HoldSome, IsLastFailed, MayKeep}
+use Rattle.study_cli.specs.KeeperWays.{over_keeper}
+use Rattle.study_cli.specs.StudyStages.{HasOpening, study_stage, on_looks}
+use Rattle.study_cli.proofs.Looks.{with_none}
+use Rattle.study_cli.specs.StudyOutcome.{case_of, commands_in, commands_from, study_call, IsStudied, IsOpened, MayBeKept}
 
 module _ (asked : StudyAsked) (case commands : Option (List ℕ)) (kept held : Option (List Look)) (before now : ℕ)
     (case_rose commands_rose keeper_rose case_clean commands_clean keeper_clean : Type 0) where
@@ -54,7 +54,7 @@ module _ (asked : StudyAsked) (case commands : Option (List ℕ)) (kept held : O
         value_stops _ Called.Refuses Called.read Called.keeper Called.memory stop (λ (r : Refusal) x. (inr (c, taken, inl (inr (bytes, given, x))), e, (clean, same), idle))
         (none_kept e, (clean, same), idle) h
 
-  module _ (c : Content) (taken : (case_of asked case).Gives c) (list : List StudyCommand) (said : (commands_of c commands).Gives list)
+  module _ (c : Content) (taken : (case_of asked case).Gives c) (list : List StudyCommand) (said : (commands_from c commands).Gives list)
       (clean : case_clean) (same : commands_clean) where
     -- the ways of the replies
     abbrev Replied : Ways Answer

@@ -1,2 +1,11 @@
-pub mod StudyLaws
+pub mod AnswerView
+pub mod Asking
+pub mod CommandFaults
+pub mod CommandLines
+pub mod CommandStatements
+pub mod Commands
+pub mod KeeperWays
+pub mod Replies
 pub mod StudyOutcome
+pub mod StudyStages
+pub mod StudyStatements

@@ -19,13 +19,13 @@ use Rattle.graph_cli.specs.Accepted.{accepted}
 use Rattle.graph_cli.specs.Outcome.{AskStudy}
 use Rattle.graph_cli.specs.declared.kind.InputKind.TheVariants.{Awaited}
 use Rattle.graph_cli.specs.declared.needs.Needs.{Needs}
-use Rattle.study_answers.specs.Asking.{looks_asked}
-use Rattle.study_answers.specs.CommandLines.{AreCommands}
-use Rattle.study_answers.specs.CommandFaults.{IsFirstFault}
-use Rattle.study_answers.specs.declared.command.StudyCommand.{StudyCommand}
-use Rattle.study_answers.specs.AnswerView.{MayKeep}
-use Rattle.study_answers.specs.KeeperWays.{over_keeper}
-use Rattle.study_answers.specs.StudyStages.{StudyEnd, HasOpening, study_stage, on_looks}
+use Rattle.study_cli.specs.Asking.{looks_asked}
+use Rattle.study_cli.specs.CommandLines.{AreCommands}
+use Rattle.study_cli.specs.CommandFaults.{IsFirstFault}
+use Rattle.study_cli.specs.declared.command.StudyCommand.{StudyCommand}
+use Rattle.study_cli.specs.AnswerView.{MayKeep}
+use Rattle.study_cli.specs.KeeperWays.{over_keeper}
+use Rattle.study_cli.specs.StudyStages.{StudyEnd, HasOpening, study_stage, on_looks}
 
 -- what a study needs of its case: p-values of stages of which none has arrived
 unfoldable pub study_needs : Needs
@@ -40,15 +40,15 @@ commands_in c bytes = record {
 
 -- the case that a study asks for, if it can take it
 abbrev pub case_of : StudyAsked → Option (List ℕ) → Stage Refusal Content
-case_of asked case = accepted asked.form study_needs case
+case_of asked case = accepted asked.format study_needs case
 
 -- the commands that a source says for a case
-abbrev pub commands_of : Content → Option (List ℕ) → Stage Refusal (List StudyCommand)
-commands_of c commands = and_then (on_bytes commands (within (codes "commands "))) (commands_in c)
+abbrev pub commands_from : Content → Option (List ℕ) → Stage Refusal (List StudyCommand)
+commands_from c commands = and_then (on_bytes commands (within (codes "commands "))) (commands_in c)
 
 -- the case, then the commands, then the kept looks and the replies
 unfoldable pub study_call : StudyAsked → Option (List ℕ) → Option (List ℕ) → Option (List Look) → Stage Refusal StudyEnd
-study_call asked case commands kept = and_then (case_of asked case) (λ c. and_then (commands_of c commands) (λ list. on_looks kept (study_stage c list)))
+study_call asked case commands kept = and_then (case_of asked case) (λ c. and_then (commands_from c commands) (λ list. on_looks kept (study_stage c list)))
 
 -- the outcome of words, a case, commands and kept looks
 abbrev pub study_outcome : List (List ℕ) → Option (List ℕ) → Option (List ℕ) → Option (List Look) → Stage Refusal StudyEnd
@@ -64,23 +64,23 @@ IsUnstudied asked case = (r : Refusal) × (case_of asked case).Refuses r
 
 -- also, the source denotes commands
 abbrev pub IsCommanded : StudyAsked → Option (List ℕ) → Option (List ℕ) → Type 0
-IsCommanded asked case commands = (c : Content) × (case_of asked case).Gives c × (list : List StudyCommand) × (commands_of c commands).Gives list
+IsCommanded asked case commands = (c : Content) × (case_of asked case).Gives c × (list : List StudyCommand) × (commands_from c commands).Gives list
 
 -- also, the looks that may be kept if the call stops part way
 abbrev pub MayBeKept : StudyAsked → Option (List ℕ) → Option (List ℕ) → Option (List Look) → List Look → Type 0
 MayBeKept asked case commands kept more =
     (more ≡ []) ⊎ ((c : Content) × (case_of asked case).Gives c × (list : List StudyCommand)
-    × (commands_of c commands).Gives list × MayKeep c list kept more)
+    × (commands_from c commands).Gives list × MayKeep c list kept more)
 
 -- also, the opening of the case is defined
 abbrev pub IsOpened : StudyAsked → Option (List ℕ) → Option (List ℕ) → Type 0
 IsOpened asked case commands = (c : Content) × (case_of asked case).Gives c
-    × (list : List StudyCommand) × (commands_of c commands).Gives list × HasOpening c
+    × (list : List StudyCommand) × (commands_from c commands).Gives list × HasOpening c
 
 -- a keeper was not called; or the source denotes commands, and the calls are at most one more than the looks that they ask for
 abbrev pub IsCalledWithin : StudyAsked → Option (List ℕ) → Option (List ℕ) → (before now : ℕ) → Type 0
 IsCalledWithin asked case commands before now =
-    (now ≡ before) ⊎ ((c : Content) × (case_of asked case).Gives c × (list : List StudyCommand) × (commands_of c commands).Gives list
+    (now ≡ before) ⊎ ((c : Content) × (case_of asked case).Gives c × (list : List StudyCommand) × (commands_from c commands).Gives list
     × (now ≤ before + (1 + looks_asked list)))
 
 -- the words ask a study for something

@@ -1,4 +1,5 @@
-//! The top call of studies whose looks are kept: words, a case and commands in, a text and a status out, over a keeper.
+//! The command `study`, over a keeper of looks: words, a case and commands in, a text and a status out. First the case and all
+//! commands are read. Then the looks that the keeper holds are taken, and the commands are replied to in their order.
 //!
 //! Proved, of `run_study`:
 //! - `runs`, by status (`Runs`, over the ways of `over_keeper`). With a status up to 5, the whole text of an answer was put
@@ -16,11 +17,30 @@
 //!   case.
 //! - `turns`: the keeper is called only after all commands are accepted, and its calls are at most one more than the looks that
 //!   they ask for.
-//! - `store_path`: `path`, `none`.
-//! - Law in `src/laws.rt`: `studies_have_one_outcome`.
+//!
+//! Proved, of what it calls:
+//! - `read_commands`: `read` (what the text denotes, or the first line that denotes no command, with its number and what is
+//!   wrong with it). Both are what the form of commands reads (`commands_of`). `below` (each look is of a hypothesis of the case).
+//! - `study_answer`: `ends` (`over_keeper`: it gives what the kept looks and the commands require, `study_stage`, and the
+//!   keeper holds its looks too). It is refused only for the opening of the case and for the kept looks, and then no look is
+//!   added. After a fault of the keeper, and out of memory, the looks of the commands up to some place may be added. `later`:
+//!   no count of faults falls. `turns`: the keeper's calls are at most one more than the looks that the commands ask for.
+//!
+//! Proved too: `store_path`: `path`, `none`. Laws in `src/laws.rt`:
+//! - `studies_have_one_outcome`, and of kept looks and commands `studies_have_one_end`.
+//! - `kept_looks_decide`: by any commands that are answered to their end, the rejections are those of the staged closed test on
+//!   all looks that are kept. `taken_looks_are_first`: commands that stop part way keep the first of those that all take.
+//! - `commands_are_read_by_lines`: a text denotes commands exactly if its lines denote them, one each (`said`). Its first
+//!   fault is that of the first line that denotes none (`fault`), which is where no text of commands continues (`first`).
 #![tactic(auto)]
 
+mod answer;
+mod command;
+mod fault;
 pub mod laws;
+mod reading;
+mod replying;
+mod rules;
 mod store;
 mod study;
 

@@ -9,7 +9,7 @@ ghost use Rattle.case_model.specs.CaseView.{content};
 ghost use Rattle.command_words.specs.Asked.{study_asked};
 ghost use Rattle.command_words.specs.WordBytes.{words_in};
 ghost use Rattle.graph_cli.specs.Accepted.{IsTakenWithin};
-ghost use Rattle.study_answers.specs.CommandLines.{IsBelow};
+ghost use Rattle.study_cli.specs.CommandLines.{IsBelow};
 ghost use Rattle.study_cli.specs.StudyOutcome.{
   study_needs,
   commands_in,
@@ -27,6 +27,10 @@ ghost use Rattle.study_cli.specs.StudyOutcome.{
   TakesFrom,
 };
 
+use crate::answer::study_answer;
+use crate::command::StudyCommand;
+use crate::fault::CommandsFault;
+use crate::reading::read_commands;
 use answers::{Answer, Stop, conclude, take_whole};
 use case_model::Case;
 use command_words::{StudyCall, read_study};
@@ -35,7 +39,6 @@ use graph_cli::{InputKind, Needs, accepted_case};
 use graph_io::{Keeper, Sink, Source};
 use refusals::{commands_refusal, usage};
 use std::alloc::Global;
-use study_answers::{CommandsFault, StudyCommand, read_commands, study_answer};
 
 /// Returns what a study needs of its case.
 #[tactic(auto, unfolding(crate::specs::StudyOutcome::study_needs))]
@@ -80,7 +83,7 @@ fn study_call<S: Source, T: Source, K: Keeper>(
     ensures turns { IsCalledWithin (study_asked call.now) (S.left case.old) (T.left commands.old)
         (K.calls keeper.old) (K.calls keeper.new) }
 {
-    let accepted = accepted_case(alloc, &call.form, study_needs(), case)?;
+    let accepted = accepted_case(alloc, &call.format, study_needs(), case)?;
     let bytes = take_whole(alloc, b"commands ", commands)?;
     let list = commands_in(alloc, &accepted, bytes.as_slice())?;
     study_answer(alloc, &accepted, keeper, list.as_slice())

@@ -1,5 +1,5 @@
 //! What words ask for, with the values that they give.
-use command_words::{CaseForm, CaseTask, Command, read_study, read_words};
+use command_words::{CaseFormat, CaseTask, Command, read_study, read_words};
 use field_core::NoMemory;
 use sequential::Priority;
 use std::alloc::Global;
@@ -21,7 +21,7 @@ fn words_of(alloc: Global, words: &[&str]) -> Result<Vec<String>, NoMemory> {
 /// Returns the task, and the parts of the level where the case is a sheet.
 fn on_case(command: &Command) -> Wanted {
     match command {
-        Command::OnCase(CaseForm::Csv(alpha), task) => {
+        Command::OnCase(CaseFormat::Csv(alpha), task) => {
             let alpha = alpha.ratio();
             Some((*task, Some((alpha.num(), alpha.den()))))
         }
@@ -174,7 +174,7 @@ fn expect_study(
 ) -> Result<(), NoMemory> {
     let words = words_of(alloc, words)?;
     let read = match read_study(words.as_slice()) {
-        Ok(call) => Ok((matches!(&call.form, CaseForm::Json), call.file, call.store)),
+        Ok(call) => Ok((matches!(&call.format, CaseFormat::Json), call.file, call.store)),
         Err(n) => Err(n),
     };
     assert!(rt; read == wanted);

@@ -6,7 +6,7 @@ ghost use Rattle.welungad_c.specs.RowCalls.{IsCaseOf, IsNoCase, TestsRows, fault
 
 use crate::reply::source;
 use case_model::{Case, Inputs};
-use command_words::CaseForm;
+use command_words::CaseFormat;
 use graph_cli::{InputKind, Needs, accepted_case};
 use std::alloc::Global;
 use trial_rows::{RowsFault, test_rows};
@@ -31,7 +31,7 @@ fn case_of(alloc: Global, text: &[u8]) -> Result<Case, u8>
         Err(_) => return Err(8),
     };
     let needs = Needs::new(InputKind::Any, 64);
-    match accepted_case(alloc, &CaseForm::Text, needs, &mut source) {
+    match accepted_case(alloc, &CaseFormat::Text, needs, &mut source) {
         Ok(case) => { if is_unstaged(&case) { Ok(case) } else { Err(3) } }
         Err(stop) => Err(stop.code()),
     }

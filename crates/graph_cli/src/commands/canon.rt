@@ -8,7 +8,7 @@ use answers::Answer;
 use case_csv::{fits_sheet, write_csv};
 use case_json::write_json;
 use case_model::Case;
-use command_words::Form;
+use command_words::Format;
 use edge_text::write_text;
 use std::alloc::Global;
 
@@ -23,14 +23,14 @@ fn sheet_answer(alloc: Global, case: &Case) -> Result<Answer, Trouble>
     Ok(Answer::done(write_csv(alloc, case)?))
 }
 
-/// Answers `canon` to a case: its canonical document in a form.
+/// Answers `canon` to a case: its canonical document in a format.
 #[tactic(auto, unfolding(crate::specs::Canon::canon_stage))]
-pub fn canon_answer(alloc: Global, case: &Case, form: Form) -> Result<Answer, Trouble>
-    ensures { Meets (canon_stage form (content case.now)) result }
+pub fn canon_answer(alloc: Global, case: &Case, format: Format) -> Result<Answer, Trouble>
+    ensures { Meets (canon_stage format (content case.now)) result }
 {
-    match form {
-        Form::Text => Ok(Answer::done(write_text(alloc, case)?)),
-        Form::Csv => sheet_answer(alloc, case),
-        Form::Json => Ok(Answer::done(write_json(alloc, case)?)),
+    match format {
+        Format::Text => Ok(Answer::done(write_text(alloc, case)?)),
+        Format::Csv => sheet_answer(alloc, case),
+        Format::Json => Ok(Answer::done(write_json(alloc, case)?)),
     }
 }

@@ -45,7 +45,7 @@ returns-clause-proof_kept g c = λ h. absurd (h (content c.in_ok-accepted.accept
 
 pub returns-in_err-accepted-clause-proof_asked : goal.returns-in_err-accepted-clause-proof_asked
 returns-in_err-accepted-clause-proof_asked g c = λ none. unrefused_handed_on {A = Content} _
-    (accepted (written c.args.form.now) c.check_needs.result (g.S.Source.left c.args.case.now)) _ _ _ c.in_err-accepted.field-0.0 c.from_residual.ensures.1
+    (accepted (written c.args.format.now) c.check_needs.result (g.S.Source.left c.args.case.now)) _ _ _ c.in_err-accepted.field-0.0 c.from_residual.ensures.1
     (λ q h. none (q, rw c.check_needs.ensures at h)) c.in_err-accepted.ensures.ends
 
 pub returns-in_err-bytes-clause-proof_asked : goal.returns-in_err-bytes-clause-proof_asked

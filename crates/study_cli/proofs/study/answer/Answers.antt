@@ -2,7 +2,7 @@ use Rattle.std.proofs.Common.{inl, inr, refl, map, sym, []}
 use Rattle.std.specs.Prelude.{string_bytes}
 use Rattle.answers.proofs.Stopping.{handed_on}
 use Rattle.command_words.specs.Asked.{study_asked}
-use Rattle.study_answers.proofs.Looks.{with_none}
+use Rattle.study_cli.proofs.Looks.{with_none}
 use Rattle.study_cli.proofs.AskedStudies.{asked_ends, first_on, second_on}
 use Rattle.study_cli.proofs.study.answer.Goals as goal
 

@@ -1,5 +1,5 @@
 use Rattle.case_model.specs.CaseView.{content}
-use Rattle.study_answers.proofs.CommandReads.{commands_found, commands_refused}
+use Rattle.study_cli.proofs.CommandReads.{commands_found, commands_refused}
 use Rattle.study_cli.proofs.study.commands_in.Goals as goal
 
 pub returns-in-Ok-clause-ends : goal.returns-in-Ok-clause-ends

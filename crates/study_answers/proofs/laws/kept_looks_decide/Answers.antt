@@ -1,8 +1,0 @@
-use Rattle.study_answers.proofs.KeptLooks.{replies_decide, kept_looks_decide}
-use Rattle.study_answers.proofs.laws.kept_looks_decide.Goals as goal
-
-pub returns-clause-replies : goal.returns-clause-replies
-returns-clause-replies c = replies_decide
-
-pub returns-clause-end : goal.returns-clause-end
-returns-clause-end c = kept_looks_decide

@@ -1,5 +1,0 @@
-use Rattle.study_answers.proofs.OneEnd.{studies_have_one_end}
-use Rattle.study_answers.proofs.laws.studies_have_one_end.Goals as goal
-
-pub returns : goal.returns
-returns c = studies_have_one_end
