@@ -19,7 +19,7 @@ use Rattle.case_json.specs.Document.{document_of}
 use Rattle.case_json.specs.Values.{IsJson}
 use Rattle.serde_json.specs.Data.{Data}
 use Rattle.serde_json.specs.Read.{read}
-use Rattle.command_words.specs.Asked.{Written, text, csv, json}
+use Rattle.command_words.specs.Asked.{Encoding, text, csv, json}
 use Rattle.edge_text.proofs.TextLaws.{says_or_fails}
 use Rattle.refusals.specs.CaseRefusal.{case_refusal}
 use Rattle.refusals.specs.CellRefusal.{cell_refusal}
@@ -67,7 +67,7 @@ json_ends bytes = elim (true_or_false (is_utf8 bytes)) [
   ]
 ]
 
-grammar_ends : (format : Written) (bytes : List ℕ) → HasLevel format → Ends (grammar format bytes)
+grammar_ends : (format : Encoding) (bytes : List ℕ) → HasLevel format → Ends (grammar format bytes)
 grammar_ends text bytes l = elim (says_or_fails bytes) [
   | inl d ↦ inl (d.0, d.1)
   | inr f ↦ inr (line_refusal f.0 f.1, (f.0, f.1, f.2, refl))
@@ -112,7 +112,7 @@ suitable_ends : (needs : Needs) (c : Content) → Ends (suitable needs c)
 suitable_ends needs c = then_ends (of_kind needs.kind c) (of_size needs.most) (kind_ends needs.kind c) (λ x g. size_ends needs.most x)
 
 -- a source in a format denotes a case that a command with these needs can take, or is refused
-pub accepted_ends : (format : Written) (needs : Needs) (left : Option (List ℕ)) → HasLevel format → Ends (accepted format needs left)
+pub accepted_ends : (format : Encoding) (needs : Needs) (left : Option (List ℕ)) → HasLevel format → Ends (accepted format needs left)
 accepted_ends format needs left l =
     then_ends (on_bytes left (within [])) _ (bytes_end left (within []) (λ bytes. within_ends [] bytes))
     (λ bytes g. then_ends (case_in format bytes) _ (then_ends (grammar format bytes) faultless (grammar_ends format bytes l) (λ d h. faultless_ends d))
@@ -125,7 +125,7 @@ pub record IsTaken (kind : InputKind) (c : Content) : Type 0 where
   pub valid : IsValidContent c
   pub of_kind : IsOfKind kind c.inputs
 
-pub accepted_taken : (format : Written) (needs : Needs) (left : Option (List ℕ)) (c : Content) → (accepted format needs left).Gives c → IsTaken needs.kind c
+pub accepted_taken : (format : Encoding) (needs : Needs) (left : Option (List ℕ)) (c : Content) → (accepted format needs left).Gives c → IsTaken needs.kind c
 accepted_taken format needs left c g =
     let draft = g.2.1.0 in
     let read : (c : Content) → (case_in format g.0).Gives c → IsValidContent c =

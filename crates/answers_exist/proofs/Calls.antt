@@ -12,7 +12,7 @@ use Rattle.catalogue.specs.NamedGraphs.{equal_weights, part}
 use Rattle.catalogue.specs.declared.fault.CatalogueFault.{CatalogueFault}
 use Rattle.catalogue.specs.declared.fault.CatalogueFault.TheVariants.{Size, Seed, Case as OfCase, NoMemory}
 use Rattle.catalogue.specs.WeightedGraphs.{names_of}
-use Rattle.command_words.specs.Asked.{Written, Asked, on_case as task_on_case, check, catalogue, sample, help}
+use Rattle.command_words.specs.Asked.{Encoding, Asked, on_case as task_on_case, check, catalogue, sample, help}
 use Rattle.command_words.specs.Words.{asked_in, stage_of}
 use Rattle.command_words.specs.declared.command.CaseTask.{CaseTask}
 use Rattle.command_words.specs.declared.command.CaseTask.TheVariants as tasks
@@ -115,13 +115,13 @@ task_ends (tasks.Evidence priority) c T = let s = single_of c.inputs T.of_kind i
 task_ends tasks.Stages c T = stages_ends c T.valid
 task_ends (tasks.Canon format) c T = canon_ends format c
 
-case_ends : (format : Written) (task : CaseTask) (case : Option (List ℕ)) → HasLevel format → Ends (case_call format task case)
+case_ends : (format : Encoding) (task : CaseTask) (case : Option (List ℕ)) → HasLevel format → Ends (case_call format task case)
 unfolding case_call
 case_ends format task case l =
     then_ends (accepted format (needs_of task) case) _ (accepted_ends format (needs_of task) case l)
     (λ c g. told_ends (line_of c.names) (on_case task c) (task_ends task c (accepted_taken format (needs_of task) case c g)))
 
-check_call_ends : (format : Written) (case proof : Option (List ℕ)) → HasLevel format → Ends (check_call format case proof)
+check_call_ends : (format : Encoding) (case proof : Option (List ℕ)) → HasLevel format → Ends (check_call format case proof)
 unfolding check_call
 check_call_ends format case proof l =
     then_ends (accepted format check_needs case) _ (accepted_ends format check_needs case l)

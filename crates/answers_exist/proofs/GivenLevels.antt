@@ -9,8 +9,8 @@ use Rattle.field_core.specs.View.{terms}
 use Rattle.field_core.specs.declared.ratio.Ratio.{Ratio}
 use Rattle.field_core.proofs.Results.{came_from, same_value}
 use Rattle.fraction.specs.Numerals.{numeral_of}
-use Rattle.command_words.specs.Asked.{Written, text, csv, json, Asked, StudyAsked, on_case as task_on_case, check, catalogue, sample, help}
-use Rattle.command_words.specs.Given.{GivenContent, nothing, with_text, value_of, format_or_text, written_as, written_of, on_case, catalogue_of, check_of}
+use Rattle.command_words.specs.Asked.{Encoding, text, csv, json, Asked, StudyAsked, on_case as task_on_case, check, catalogue, sample, help}
+use Rattle.command_words.specs.Given.{GivenContent, nothing, with_text, value_of, format_or_text, encoding_as, encoding_of, on_case, catalogue_of, check_of}
 use Rattle.command_words.specs.Given.{sample_of, study_of, asked_of, forbidden_word}
 use Rattle.command_words.specs.Levels.{Level, level_in}
 use Rattle.command_words.specs.WordParts.{text_of}
@@ -21,13 +21,13 @@ abbrev pub IsOfFraction : Level → Type 0
 IsOfFraction alpha = (r : Ratio) × (terms r ≡ alpha)
 
 -- if a case is written as a sheet, its level is that of a fraction
-abbrev pub HasLevel : Written → Type 0
+abbrev pub HasLevel : Encoding → Type 0
 HasLevel text = Unit {0}
 HasLevel (csv alpha) = IsOfFraction alpha
 HasLevel json = Unit {0}
 
 -- how the case of a request is written
-abbrev pub format_in : Asked → Option Written
+abbrev pub format_in : Asked → Option Encoding
 format_in (task_on_case format task) = Some format
 format_in (catalogue graph) = None
 format_in (check format file) = Some format
@@ -36,7 +36,7 @@ format_in help = None
 
 -- so it is in a request
 abbrev pub AsksLevel : Asked → Type 0
-AsksLevel asked = (format : Written) → format_in asked ≡ Some format → HasLevel format
+AsksLevel asked = (format : Encoding) → format_in asked ≡ Some format → HasLevel format
 
 -- a level that was given is that of a fraction
 abbrev GivesLevel : Option (Level × ℕ) → Type 0
@@ -52,7 +52,7 @@ unfolding with_text
 put_alpha verb at argument bytes g new e = grind arith
 
 -- a request has the format that was given, or reads no case
-asked_format : (verb : _) (g : GivenContent) (asked : Asked) → asked_of verb g ≡ Some asked → (format_in asked ≡ None) ⊎ (format_in asked ≡ written_of g)
+asked_format : (verb : _) (g : GivenContent) (asked : Asked) → asked_of verb g ≡ Some asked → (format_in asked ≡ None) ⊎ (format_in asked ≡ encoding_of g)
 unfolding on_case check_of catalogue_of sample_of
 asked_format verb g asked e = grind arith
 
@@ -123,25 +123,25 @@ value_level None alpha e h = absurd (cc e)
 value_level (Some x) alpha e h = let s : x.0 ≡ alpha = cc in subst IsOfFraction s h
 
 -- a case that is written in some format has the level that was given
-format_level : (format : _) (o : Option (Level × ℕ)) (w : Written) → written_as format (value_of o) ≡ Some w
+format_level : (format : _) (o : Option (Level × ℕ)) (w : Encoding) → encoding_as format (value_of o) ≡ Some w
     → (w ≡ text) ⊎ ((w ≡ json) ⊎ ((alpha : Level) × (value_of o ≡ Some alpha) × (csv alpha ≡ w)))
 format_level format o w e = grind arith
 
-written_level : (g : GivenContent) (w : Written) → written_of g ≡ Some w → GivesLevel g.alpha → HasLevel w
-unfolding written_of
-written_level g w e h = elim (format_level (format_or_text g.format) g.alpha w e) [
+encoding_level : (g : GivenContent) (w : Encoding) → encoding_of g ≡ Some w → GivesLevel g.alpha → HasLevel w
+unfolding encoding_of
+encoding_level g w e h = elim (format_level (format_or_text g.format) g.alpha w e) [
   | inl t ↦ subst HasLevel (sym t) tt
   | inr (inl j) ↦ subst HasLevel (sym j) tt
   | inr (inr a) ↦ subst HasLevel a.2 (value_level g.alpha a.0 a.1 h)
 ]
 
-none_asked : (o : Option Written) (w : Written) → o ≡ Some w → o ≡ None → ⊥
+none_asked : (o : Option Encoding) (w : Encoding) → o ≡ Some w → o ≡ None → ⊥
 none_asked o w e f = cc
 
 asked_level : (verb : _) (g : GivenContent) (asked : Asked) → asked_of verb g ≡ Some asked → GivesLevel g.alpha → AsksLevel asked
 asked_level verb g asked e h w f = elim (asked_format verb g asked e) [
   | inl none ↦ absurd (none_asked (format_in asked) w f none)
-  | inr same ↦ written_level g w (sym same ∙ f) h
+  | inr same ↦ encoding_level g w (sym same ∙ f) h
 ]
 
 unless_ok : (o : Option ℕ) (x y : Asked) → unless o x ≡ Ok y → x ≡ y
@@ -160,14 +160,14 @@ words_level words asked e =
 
 -- ---- studies
 
-study_format : (g : GivenContent) (asked : StudyAsked) → study_of g ≡ Some asked → written_of g ≡ Some asked.format
+study_format : (g : GivenContent) (asked : StudyAsked) → study_of g ≡ Some asked → encoding_of g ≡ Some asked.format
 unfolding study_of
 study_format g asked e = grind arith
 
 study_after_level : (words : List (List ℕ)) (asked : StudyAsked) → study_after words ≡ Ok asked → HasLevel asked.format
 study_after_level words asked e =
     let g = came_from (arguments_in _ words) _ asked e in
-    written_level g.0 asked.format (study_format g.0 asked (given_ok (study_of g.0) (length words + 1) asked g.2)) (arguments_level _ words g.0 g.1)
+    encoding_level g.0 asked.format (study_format g.0 asked (given_ok (study_of g.0) (length words + 1) asked g.2)) (arguments_level _ words g.0 g.1)
 
 if_study : (b : Bool) (words : List (List ℕ)) (asked : StudyAsked) → (if b then study_after words else Err 1) ≡ Ok asked → HasLevel asked.format
 if_study true words asked e = study_after_level words asked e

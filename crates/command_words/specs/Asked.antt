@@ -11,28 +11,28 @@ use Rattle.command_words.specs.declared.command.StudyCall.{StudyCall}
 use Rattle.command_words.specs.declared.format.CaseFormat.TheVariants as formats
 
 -- how a case is written; a sheet comes with its level
-pub data Written : Type 0 where
-  text : Written
-  csv : (alpha : Level) → Written
-  json : Written
+pub data Encoding : Type 0 where
+  text : Encoding
+  csv : (alpha : Level) → Encoding
+  json : Encoding
 
 -- what is to be done
 pub data Asked : Type 0 where
-  on_case : Written → CaseTask → Asked
+  on_case : Encoding → CaseTask → Asked
   catalogue : SizedGraph → Asked
-  check : Written → (file : ℕ) → Asked
+  check : Encoding → (file : ℕ) → Asked
   sample : (size seed : ℕ) → Asked
   help : Asked
 
-abbrev pub written : CaseFormat → Written
-written formats.Text = text
-written (formats.Csv alpha) = csv (level_of alpha)
-written formats.Json = json
+abbrev pub encoding : CaseFormat → Encoding
+encoding formats.Text = text
+encoding (formats.Csv alpha) = csv (level_of alpha)
+encoding formats.Json = json
 
 abbrev pub asked : Command → Asked
-asked (commands.OnCase format task) = on_case (written format) task
+asked (commands.OnCase format task) = on_case (encoding format) task
 asked (commands.Catalogue graph) = catalogue graph
-asked (commands.Check format file) = check (written format) file
+asked (commands.Check format file) = check (encoding format) file
 asked (commands.Sample size seed) = sample size seed
 asked commands.Help = help
 
@@ -47,9 +47,9 @@ file_of help = None
 -- What a study is to do: how its case is written, which word names the file of its commands, and the path of the file of its looks. The word's place
 -- counts from 0.
 pub record StudyAsked : Type 0 where
-  pub format : Written
+  pub format : Encoding
   pub file : ℕ
   pub store : Option (List ℕ)
 
 abbrev pub study_asked : StudyCall → StudyAsked
-study_asked call = record { format = written call.format; file = call.file; store = option_map (λ path. path.now) call.store }
+study_asked call = record { format = encoding call.format; file = call.file; store = option_map (λ path. path.now) call.store }

@@ -1,7 +1,7 @@
 -- What the arguments say.
 use Rattle.std.specs.Prelude.{ℕ, ◌+◌, List, Bool, true, false, not, Option, Some, None, is_some}
 use Rattle.std.specs.Option.{option_map}
-use Rattle.command_words.specs.Asked.{Asked, StudyAsked, Written, text, csv, json, on_case as task_on_case, check, catalogue, sample, help}
+use Rattle.command_words.specs.Asked.{Asked, StudyAsked, Encoding, text, csv, json, on_case as task_on_case, check, catalogue, sample, help}
 use Rattle.command_words.specs.Counts.{count_of}
 use Rattle.command_words.specs.Graphs.{sized, has_second}
 use Rattle.command_words.specs.Levels.{Level, level_of, level_in}
@@ -107,13 +107,13 @@ format_or_text None = formats.Text
 format_or_text (Some format) = format
 
 -- a sheet needs its level
-abbrev pub written_as : Format → Option Level → Option Written
-written_as formats.Text alpha = Some text
-written_as formats.Csv alpha = option_map csv alpha
-written_as formats.Json alpha = Some json
+abbrev pub encoding_as : Format → Option Level → Option Encoding
+encoding_as formats.Text alpha = Some text
+encoding_as formats.Csv alpha = option_map csv alpha
+encoding_as formats.Json alpha = Some json
 
-unfoldable pub written_of : GivenContent → Option Written
-written_of g = written_as (format_or_text g.format) (value_of g.alpha)
+unfoldable pub encoding_of : GivenContent → Option Encoding
+encoding_of g = encoding_as (format_or_text g.format) (value_of g.alpha)
 
 -- ---- what a command asks for
 
@@ -123,7 +123,7 @@ priority_or_first (Some priority) = priority
 
 -- a task on the case; nothing if something is missing
 unfoldable pub on_case : GivenContent → CaseTask → Option Asked
-on_case g task = option_map (λ format. task_on_case format task) (written_of g)
+on_case g task = option_map (λ format. task_on_case format task) (encoding_of g)
 
 -- a named graph needs its name, its size, and its second size if it has one
 abbrev pub catalogue_by : Option GraphName → Option ℕ → Option ℕ → Option Asked
@@ -135,13 +135,13 @@ unfoldable pub catalogue_of : GivenContent → Option Asked
 catalogue_of g = catalogue_by g.graph g.size (value_of g.second)
 
 -- a check needs its file, and how its case is written
-abbrev pub check_by : Option Written → Option ℕ → Option Asked
+abbrev pub check_by : Option Encoding → Option ℕ → Option Asked
 check_by (Some format) (Some file) = Some (check format file)
 check_by (Some format) None = None
 check_by None file = None
 
 unfoldable pub check_of : GivenContent → Option Asked
-check_of g = check_by (written_of g) g.file
+check_of g = check_by (encoding_of g) g.file
 
 -- a sample needs its size and its seed
 abbrev pub sample_by : Option ℕ → Option ℕ → Option Asked
@@ -153,13 +153,13 @@ unfoldable pub sample_of : GivenContent → Option Asked
 sample_of g = sample_by g.size g.seed
 
 -- a study needs its commands, and how its case is written
-abbrev pub study_by : Option Written → Option ℕ → Option (List ℕ) → Option StudyAsked
+abbrev pub study_by : Option Encoding → Option ℕ → Option (List ℕ) → Option StudyAsked
 study_by (Some format) (Some file) store = Some (record { format = format; file = file; store = store })
 study_by (Some format) None store = None
 study_by None file store = None
 
 unfoldable pub study_of : GivenContent → Option StudyAsked
-study_of g = study_by (written_of g) g.file g.store
+study_of g = study_by (encoding_of g) g.file g.store
 
 -- what a command asks for that keeps no looks; nothing if something is missing
 abbrev pub asked_of : Verb → GivenContent → Option Asked

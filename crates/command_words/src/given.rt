@@ -30,13 +30,13 @@ pub(crate) struct Given<'a> {
 impl<'a> Given<'a> {
     ghost use Rattle.std.specs.Prelude.{◌≡◌, ◌<◌, ◌^◌, ◌+◌};
     ghost use Rattle.std.specs.Option.{option_map};
-    ghost use Rattle.command_words.specs.Asked.{asked, study_asked, written};
+    ghost use Rattle.command_words.specs.Asked.{asked, study_asked, encoding};
     ghost use Rattle.command_words.specs.Given.{
       given_content,
       is_given,
       nothing,
       with_text,
-      written_of,
+      encoding_of,
       on_case,
       check_of,
       catalogue_of,
@@ -121,9 +121,9 @@ impl<'a> Given<'a> {
     }
 
     /// Returns how the case is written; `None` if its level is missing.
-    #[tactic(auto, unfolding(crate::specs::Given::written_of))]
+    #[tactic(auto, unfolding(crate::specs::Given::encoding_of))]
     fn case_format(&self) -> Option<CaseFormat>
-        ensures { option_map written result ≡ written_of (given_content self.now) }
+        ensures { option_map encoding result ≡ encoding_of (given_content self.now) }
     {
         match self.format {
             None | Some(Format::Text) => Some(CaseFormat::Text),

@@ -8,7 +8,7 @@ use Rattle.case_model.specs.declared.fault.CaseFault.{CaseFault}
 use Rattle.case_model.specs.CaseFaults.{case_fault}
 use Rattle.case_model.specs.Content.{Content}
 use Rattle.case_model.specs.declared.draft.Draft.{Draft}
-use Rattle.command_words.specs.Asked.{Written, text, csv, json}
+use Rattle.command_words.specs.Asked.{Encoding, text, csv, json}
 use Rattle.edge_text.proofs.TextLaws.{one_draft, one_first_fault, not_both}
 use Rattle.field_core.specs.View.{terms}
 use Rattle.field_core.specs.declared.ratio.Ratio.{Ratio}
@@ -60,7 +60,7 @@ json_not_both : (bytes : List ℕ) (d : Draft) (r : Refusal) → (grammar json b
 json_not_both bytes d r h (inl k) = k.0 h.0 h.1
 json_not_both bytes d r h (inr k) = cc (sym h.2 ∙ same_document bytes h.0 k.1.0 h.1 k.1.1 ∙ k.1.2)
 
-grammar_decided : (format : Written) (bytes : List ℕ) → IsDecided (grammar format bytes)
+grammar_decided : (format : Encoding) (bytes : List ℕ) → IsDecided (grammar format bytes)
 grammar_decided text bytes = record {
   one = λ d e h k. one_draft bytes d e h k;
   one_refusal = λ r q h k. let e = one_first_fault bytes h.0 k.0 h.1 k.1 h.2 k.2 in h.3 ∙ ap₂ line_refusal e.0 e.1 ∙ sym k.3;
@@ -101,7 +101,7 @@ of_size_decided most c = record {
 suitable_decided : (needs : Needs) (c : Content) → IsDecided (suitable needs c)
 suitable_decided needs c = then_decided _ _ (of_kind_decided needs.kind c) (of_size_decided needs.most)
 
-pub accepted_decided : (format : Written) (needs : Needs) (bytes : List ℕ) → IsDecided (accepted format needs (Some bytes))
+pub accepted_decided : (format : Encoding) (needs : Needs) (bytes : List ℕ) → IsDecided (accepted format needs (Some bytes))
 accepted_decided format needs bytes =
     then_decided _ _ (within_decided _ bytes) (λ xs. then_decided _ _ (then_decided _ _ (grammar_decided format xs) faultless_decided)
     (λ c. told_as_decided (line_of c.names) _ (suitable_decided needs c)))

@@ -23,7 +23,7 @@ use Rattle.edge_text.proofs.Texts.{document_arrivals}
 use Rattle.case_csv.specs.Table.{cells_of}
 use Rattle.case_csv.proofs.NoArrivals.{no_arrivals}
 use Rattle.case_json.proofs.Drafts.{says_arrivals}
-use Rattle.command_words.specs.Asked.{Written, text, csv, json, on_case}
+use Rattle.command_words.specs.Asked.{Encoding, text, csv, json, on_case}
 use Rattle.command_words.specs.declared.command.CaseTask.{CaseTask}
 use Rattle.command_words.specs.declared.command.CaseTask.TheVariants.{Test}
 use Rattle.command_words.specs.Words.{asked_in}
@@ -51,7 +51,7 @@ unfolding is_rejected
 named_listed steps j = any_listed steps j
 
 -- of what a format says, each p-value that arrived is of a hypothesis
-pub known_arrivals : (format : Written) (bytes : List ℕ) (d : Draft) → (grammar format bytes).Gives d → have_known_arrivals d ≡ true
+pub known_arrivals : (format : Encoding) (bytes : List ℕ) (d : Draft) → (grammar format bytes).Gives d → have_known_arrivals d ≡ true
 known_arrivals text bytes d t = document_arrivals bytes d t
 known_arrivals (csv alpha) bytes d t = no_arrivals (cells_of bytes) t.0 d t.2
 known_arrivals json bytes d t = says_arrivals bytes d t
@@ -104,7 +104,7 @@ reported c priority d xs printed v h k e = record {
 }
 
 -- What a task on a case answers with status 0 is of a draft without a fault, which the bytes say.
-pub reports_case : (Reports : Content → List ℕ → Type 0) (words : List (List ℕ)) (format : Written) (task : CaseTask) (case : List ℕ)
+pub reports_case : (Reports : Content → List ℕ → Type 0) (words : List (List ℕ)) (format : Encoding) (task : CaseTask) (case : List ℕ)
     (proof : Option (List ℕ)) (a : Answer)
     → ((c : Content) → IsValidContent c → (answers_on_case task c).Gives a → Reports c a.text)
     → AskFor words (on_case format task) → IsAnswerOf (outcome words (Some case) proof) a → a.status ≡ Done → ReportsCase Reports format case a.text

@@ -10,7 +10,7 @@ use Rattle.case_model.specs.declared.inputs.Inputs.{Inputs}
 use Rattle.case_model.specs.declared.inputs.Inputs.TheVariants.{Bare as NoValues, Single as Values, Staged as Stages}
 use Rattle.case_model.specs.Content.{Content, content_of}
 use Rattle.case_model.specs.declared.draft.Draft.{Draft}
-use Rattle.command_words.specs.Asked.{Written, text, csv, json}
+use Rattle.command_words.specs.Asked.{Encoding, text, csv, json}
 use Rattle.edge_text.specs.Document.{IsText}
 use Rattle.edge_text.specs.Faults.{IsFirstFault}
 use Rattle.edge_text.specs.declared.fault.LineKind.{LineKind}
@@ -44,7 +44,7 @@ abbrev pub IsNoJson : List ℕ → Type 0
 IsNoJson bytes = (value : Data) → ¬ IsJson bytes value
 
 -- the draft that bytes denote in a format, or the first place at which they are not allowed
-abbrev pub grammar : Written → List ℕ → Stage Refusal Draft
+abbrev pub grammar : Encoding → List ℕ → Stage Refusal Draft
 grammar text bytes = record {
   Gives = λ d. IsText bytes d;
   Refuses = λ r. (n : ℕ) × (kind : LineKind) × IsFirstFault bytes n kind × (r ≡ line_refusal n kind);
@@ -66,7 +66,7 @@ faultless d = record {
 }
 
 -- the case that bytes say in a format
-abbrev pub case_in : Written → List ℕ → Stage Refusal Content
+abbrev pub case_in : Encoding → List ℕ → Stage Refusal Content
 case_in format bytes = and_then (grammar format bytes) faultless
 
 -- p-values are of a kind
@@ -101,5 +101,5 @@ abbrev pub suitable : Needs → Content → Stage Trouble Content
 suitable needs c = and_then (of_kind needs.kind c) (of_size needs.most)
 
 -- the case that a source says in a format, if a command with these needs can take it
-abbrev pub accepted : Written → Needs → Option (List ℕ) → Stage Refusal Content
+abbrev pub accepted : Encoding → Needs → Option (List ℕ) → Stage Refusal Content
 accepted format needs left = and_then (on_bytes left (within [])) (λ bytes. and_then (case_in format bytes) (λ c. told_as (line_of c.names) (suitable needs c)))

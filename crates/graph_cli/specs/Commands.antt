@@ -7,7 +7,7 @@ use Rattle.answers.specs.Devices.{Reading}
 use Rattle.answers.specs.Stages.{Stage, and_then, told_as, on_bytes, within}
 use Rattle.answers.specs.Ways.{Ways, over_source}
 use Rattle.case_model.specs.Content.{Content}
-use Rattle.command_words.specs.Asked.{Written, Asked, on_case as task_on_case, check, catalogue, sample, help}
+use Rattle.command_words.specs.Asked.{Encoding, Asked, on_case as task_on_case, check, catalogue, sample, help}
 use Rattle.command_words.specs.declared.command.CaseTask.{CaseTask}
 use Rattle.command_words.specs.declared.command.CaseTask.TheVariants as tasks
 use Rattle.graph_cli.specs.Accepted.{accepted}
@@ -48,7 +48,7 @@ on_case tasks.Stages c = stages_stage c
 on_case (tasks.Canon format) c = canon_stage format c
 
 -- a task on a case alone
-unfoldable pub case_call : Written → CaseTask → Option (List ℕ) → Stage Refusal Answer
+unfoldable pub case_call : Encoding → CaseTask → Option (List ℕ) → Stage Refusal Answer
 case_call format task case = and_then (accepted format (needs_of task) case) (λ c. told_as (line_of c.names) (on_case task c))
 
 -- what `check` needs of its case
@@ -56,19 +56,19 @@ unfoldable pub check_needs : Needs
 check_needs = record { kind = Single; most = 64 }
 
 -- `check`: a case that it can take, and then the text of the evidence
-unfoldable pub check_call : Written → Option (List ℕ) → Option (List ℕ) → Stage Refusal Answer
+unfoldable pub check_call : Encoding → Option (List ℕ) → Option (List ℕ) → Stage Refusal Answer
 check_call format case proof = and_then (accepted format check_needs case) (λ c. and_then (on_bytes proof (within (codes "proof "))) (λ bytes. told_as (line_of c.names) (check_stage c bytes)))
 
 -- the source denotes a case that `check` can take
-abbrev pub IsCheckable : Written → Option (List ℕ) → Type 0
+abbrev pub IsCheckable : Encoding → Option (List ℕ) → Type 0
 IsCheckable format case = (c : Content) × (accepted format check_needs case).Gives c
 
 -- the source denotes no case that `check` can take
-abbrev pub IsUncheckable : Written → Option (List ℕ) → Type 0
+abbrev pub IsUncheckable : Encoding → Option (List ℕ) → Type 0
 IsUncheckable format case = (r : Refusal) × (accepted format check_needs case).Refuses r
 
 -- The ways in which `check` may end, by what its case and its proof were and are.
-abbrev pub check_ways : Written → (case_old case_new proof_old proof_new : Reading) → Ways Answer
+abbrev pub check_ways : Encoding → (case_old case_new proof_old proof_new : Reading) → Ways Answer
 check_ways format case_old case_new proof_old proof_new = over_source (check_call format case_old.left proof_old.left)
     (Rose case_old.faults case_new.faults ⊎ (IsCheckable format case_old.left × Rose proof_old.faults proof_new.faults))
     ((case_new.faults ≡ case_old.faults) × (proof_new.faults ≡ proof_old.faults))

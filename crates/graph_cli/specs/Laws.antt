@@ -11,7 +11,7 @@ use Rattle.case_model.specs.declared.draft.Draft.{Draft}
 use Rattle.case_model.specs.LegalOrder.{IsListed, IsLegalOrder, IsComplete}
 use Rattle.case_model.specs.Sums.{number_at}
 use Rattle.catalogue.specs.Makings.{sample_case}
-use Rattle.command_words.specs.Asked.{Written, on_case, check, sample}
+use Rattle.command_words.specs.Asked.{Encoding, on_case, check, sample}
 use Rattle.command_words.specs.declared.command.CaseTask.TheVariants.{Test, Stages, Evidence as EvidenceTask}
 use Rattle.case_model.specs.StagedCase.{IsStagedRejectedIn}
 use Rattle.report.specs.StagesReport.{is_settled, stages_report}
@@ -82,7 +82,7 @@ pub record ReportsStagedTest (c : Content) (text : List ℕ) : Type 0 where
   pub named : (j : ℕ) → (is_settled looks j ≡ true) ↔ IsStagedRejectedIn c (arrivals_of c.inputs) j
 
 -- the bytes say, in a format, a draft without a fault, and the text reports something of its case
-pub record ReportsCase (Reports : Content → List ℕ → Type 0) (format : Written) (bytes text : List ℕ) : Type 0 where
+pub record ReportsCase (Reports : Content → List ℕ → Type 0) (format : Encoding) (bytes text : List ℕ) : Type 0 where
   pub draft : Draft
   pub says : (grammar format bytes).Gives draft
   pub faultless : case_fault draft ≡ None
@@ -90,7 +90,7 @@ pub record ReportsCase (Reports : Content → List ℕ → Type 0) (format : Wri
 
 -- what words that ask for `test` are answered with status 0, by any priority, reports the closed test on the case
 abbrev pub ReportsAreOfTheClosedTest : Type 0
-ReportsAreOfTheClosedTest = (words : List (List ℕ)) (format : Written) (priority : Priority) (case : List ℕ) (proof : Option (List ℕ)) (a : Answer)
+ReportsAreOfTheClosedTest = (words : List (List ℕ)) (format : Encoding) (priority : Priority) (case : List ℕ) (proof : Option (List ℕ)) (a : Answer)
     → AskFor words (on_case format (Test priority)) → IsAnswerOf (outcome words (Some case) proof) a → a.status ≡ Done
     → ReportsCase (ReportsClosedTest priority) format case a.text
 
@@ -102,7 +102,7 @@ SamplesAreOfTheClosedTest = (words : List (List ℕ)) (size seed : ℕ) (case pr
 
 -- what words that ask for `stages` are answered with status 0 reports the staged closed test on the case
 abbrev pub ReportsAreOfTheStagedTest : Type 0
-ReportsAreOfTheStagedTest = (words : List (List ℕ)) (format : Written) (case : List ℕ) (proof : Option (List ℕ)) (a : Answer)
+ReportsAreOfTheStagedTest = (words : List (List ℕ)) (format : Encoding) (case : List ℕ) (proof : Option (List ℕ)) (a : Answer)
     → AskFor words (on_case format Stages) → IsAnswerOf (outcome words (Some case) proof) a → a.status ≡ Done
     → ReportsCase ReportsStagedTest format case a.text
 
@@ -127,7 +127,7 @@ pub record PrintsEvidence (c : Content) (text : List ℕ) : Type 0 where
 
 -- what words that ask for `evidence` are answered with status 0, by any priority, is such evidence of the case
 abbrev pub EvidenceIsOfTheClosedTest : Type 0
-EvidenceIsOfTheClosedTest = (words : List (List ℕ)) (format : Written) (priority : Priority) (case : List ℕ) (proof : Option (List ℕ)) (a : Answer)
+EvidenceIsOfTheClosedTest = (words : List (List ℕ)) (format : Encoding) (priority : Priority) (case : List ℕ) (proof : Option (List ℕ)) (a : Answer)
     → AskFor words (on_case format (EvidenceTask priority)) → IsAnswerOf (outcome words (Some case) proof) a → a.status ≡ Done
     → ReportsCase PrintsEvidence format case a.text
 
@@ -146,6 +146,6 @@ pub record ReportsEvidence (c : Content) (proof text : List ℕ) : Type 0 where
 
 -- what words that ask for `check` are answered with status 0 lists only hypotheses that the closed test rejects, and in version 2 all of them
 abbrev pub ChecksAreOfTheClosedTest : Type 0
-ChecksAreOfTheClosedTest = (words : List (List ℕ)) (format : Written) (file : ℕ) (case proof : List ℕ) (a : Answer)
+ChecksAreOfTheClosedTest = (words : List (List ℕ)) (format : Encoding) (file : ℕ) (case proof : List ℕ) (a : Answer)
     → AskFor words (check format file) → IsAnswerOf (outcome words (Some case) (Some proof)) a → a.status ≡ Done
     → ReportsCase (λ c. ReportsEvidence c proof) format case a.text

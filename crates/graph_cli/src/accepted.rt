@@ -5,7 +5,7 @@ ghost use Rattle.answers.specs.Devices.{reading};
 ghost use Rattle.answers.specs.Stages.{seen_by};
 ghost use Rattle.answers.specs.Ways.{EndsIn, over_values, over_reading};
 ghost use Rattle.case_model.specs.CaseView.{content};
-ghost use Rattle.command_words.specs.Asked.{written, text, csv, json};
+ghost use Rattle.command_words.specs.Asked.{encoding, text, csv, json};
 ghost use Rattle.command_words.specs.Levels.{level_of};
 ghost use Rattle.graph_cli.specs.Accepted.{IsTakenWithin, case_in, suitable, accepted};
 ghost use Rattle.graph_cli.specs.Troubles.{Meets};
@@ -69,7 +69,7 @@ fn json_case(alloc: Global, bytes: &[u8]) -> Result<Case, Stop>
 
 /// Returns the case that bytes say in a format.
 fn read_case(alloc: Global, format: &CaseFormat, bytes: &[u8]) -> Result<Case, Stop>
-    ensures { EndsIn (over_values (seen_by content (case_in (written format.now) bytes.now))) result }
+    ensures { EndsIn (over_values (seen_by content (case_in (encoding format.now) bytes.now))) result }
 {
     match format {
         CaseFormat::Text => text_case(alloc, bytes),
@@ -99,7 +99,7 @@ pub fn accepted_case<S: Source>(
     needs: Needs,
     source: &mut S,
 ) -> Result<Case, Stop>
-    ensures ends { EndsIn (over_reading (seen_by content (accepted (written format.now) needs (S.left source.old)))
+    ensures ends { EndsIn (over_reading (seen_by content (accepted (encoding format.now) needs (S.left source.old)))
         (reading S.Source source.old) (reading S.Source source.new)) result }
     ensures end { OnOk result (IsAtEnd (S.left source.new)) }
     ensures taken { IsTakenWithin S.left S.calls source.old source.new }

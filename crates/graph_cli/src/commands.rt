@@ -4,7 +4,7 @@ ghost use Rattle.std.specs.Io.KnownBytes.{IsAtEnd};
 ghost use Rattle.answers.specs.Devices.{reading};
 ghost use Rattle.answers.specs.Ways.{EndsIn, IfConcluded, over_reading};
 ghost use Rattle.case_model.specs.CaseView.{content};
-ghost use Rattle.command_words.specs.Asked.{asked, written};
+ghost use Rattle.command_words.specs.Asked.{asked, encoding};
 ghost use Rattle.graph_cli.specs.Accepted.{IsOfKind, IsTakenWithin};
 ghost use Rattle.graph_cli.specs.Commands.{
   needs_of,
@@ -97,7 +97,7 @@ fn case_call<S: Source>(
     task: CaseTask,
     source: &mut S,
 ) -> Result<Answer, Stop>
-    ensures ends { EndsIn (over_reading (case_call (written format.now) task (S.left source.old))
+    ensures ends { EndsIn (over_reading (case_call (encoding format.now) task (S.left source.old))
         (reading S.Source source.old) (reading S.Source source.new)) result }
     ensures end { OnOk result (IsAtEnd (S.left source.new)) }
     ensures taken { IsTakenWithin S.left S.calls source.old source.new }
@@ -122,12 +122,12 @@ fn check_call<S: Source, T: Source>(
     case: &mut S,
     proof: &mut T,
 ) -> Result<Answer, Stop>
-    ensures ends { EndsIn (check_ways (written format.now) (reading S.Source case.old) (reading S.Source case.new)
+    ensures ends { EndsIn (check_ways (encoding format.now) (reading S.Source case.old) (reading S.Source case.new)
         (reading T.Source proof.old) (reading T.Source proof.new)) result }
     ensures case_end { OnOk result (IsAtEnd (S.left case.new)) }
-    ensures proof_kept { ¬ IsCheckable (written format.now) (S.left case.old) → proof.new ≡ proof.old }
+    ensures proof_kept { ¬ IsCheckable (encoding format.now) (S.left case.old) → proof.new ≡ proof.old }
     ensures proof_end { OnOk result (IsAtEnd (T.left proof.new)) }
-    ensures proof_asked { ¬ IsUncheckable (written format.now) (S.left case.old) →
+    ensures proof_asked { ¬ IsUncheckable (encoding format.now) (S.left case.old) →
         IfConcluded (T.calls proof.old < T.calls proof.new) result }
     ensures case_taken { IsTakenWithin S.left S.calls case.old case.new }
     ensures proof_taken { IsTakenWithin T.left T.calls proof.old proof.new }

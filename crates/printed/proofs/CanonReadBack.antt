@@ -16,7 +16,7 @@ use Rattle.case_json.specs.Written.{json_text}
 use Rattle.case_model.specs.Content.{Content, content_of, has_coefficients}
 use Rattle.case_model.specs.Validity.{IsValidContent}
 use Rattle.case_model.specs.declared.draft.Draft.{Draft}
-use Rattle.command_words.specs.Asked.{Written, text, csv, json, on_case}
+use Rattle.command_words.specs.Asked.{Encoding, text, csv, json, on_case}
 use Rattle.command_words.specs.declared.command.CaseTask.TheVariants.{Canon}
 use Rattle.command_words.specs.declared.format.Format.{Format}
 use Rattle.command_words.specs.declared.format.Format.TheVariants.{Text, Csv, Json}
@@ -36,7 +36,7 @@ use Rattle.printed.proofs.WholeTexts.{text_whole, sheet_draft_whole}
 
 -- ---- one reading
 
-one_draft : (format : Written) (bytes : List ℕ) (d e : Draft) → (grammar format bytes).Gives d → (grammar format bytes).Gives e → d ≡ e
+one_draft : (format : Encoding) (bytes : List ℕ) (d e : Draft) → (grammar format bytes).Gives d → (grammar format bytes).Gives e → d ≡ e
 one_draft text bytes d e h k = texts.one_draft bytes d e h k
 one_draft (csv alpha) bytes d e h k =
     let same = same_ratio h.0 k.0 (h.1 ∙ sym k.1) in
@@ -45,11 +45,11 @@ one_draft json bytes d e h k =
     same_value d e (sym h.2 ∙ ap document_of (one_some (read bytes) h.0 k.0 h.1.1 k.1.1) ∙ k.2)
 
 -- bytes say at most one case
-pub one_content : (format : Written) (bytes : List ℕ) (c d : Content) → (case_in format bytes).Gives c → (case_in format bytes).Gives d → c ≡ d
+pub one_content : (format : Encoding) (bytes : List ℕ) (c d : Content) → (case_in format bytes).Gives c → (case_in format bytes).Gives d → c ≡ d
 one_content format bytes c d h k = h.2.1 ∙ ap content_of (one_draft format bytes h.0 k.0 h.1 k.1) ∙ sym k.2.1
 
 -- what bytes say has edges with a coefficient for each power
-draft_whole : (format : Written) (bytes : List ℕ) (d : Draft) → (grammar format bytes).Gives d → IsWhole d
+draft_whole : (format : Encoding) (bytes : List ℕ) (d : Draft) → (grammar format bytes).Gives d → IsWhole d
 draft_whole text bytes d h = text_whole bytes d h
 draft_whole (csv alpha) bytes d h = sheet_draft_whole (cells_of bytes) h.0 d h.2
 draft_whole json bytes d h = json_whole bytes d h
@@ -94,13 +94,13 @@ read_as to c printed g = record { reads = g; only = λ d k. one_content (read_ag
 abbrev Prints : Format → Answer → Content → List ℕ → Type 0
 Prints to a c printed = (canon_stage to c).Gives a
 
-prints_case : (words : List (List ℕ)) (format : Written) (to : Format) (bytes : List ℕ) (proof : Option (List ℕ)) (a : Answer)
+prints_case : (words : List (List ℕ)) (format : Encoding) (to : Format) (bytes : List ℕ) (proof : Option (List ℕ)) (a : Answer)
     → AskFor words (on_case format (Canon to)) → IsAnswerOf (outcome words (Some bytes) proof) a → a.status ≡ Done
     → ReportsCase (Prints to a) format bytes a.text
 unfolding answers_on_case
 prints_case words format to bytes proof a asks h z = reports_case (Prints to a) words format (Canon to) bytes proof a (λ c v g. g) asks h z
 
-printed_read : (format : Written) (to : Format) (bytes : List ℕ) (a : Answer) (r : ReportsCase (Prints to a) format bytes a.text)
+printed_read : (format : Encoding) (to : Format) (bytes : List ℕ) (a : Answer) (r : ReportsCase (Prints to a) format bytes a.text)
     → IsReadAs to (content_of r.draft) a.text
 printed_read format to bytes a r =
     let c = content_of r.draft in
@@ -119,7 +119,7 @@ same_reading Csv c d e = ap (λ x. csv (terms x)) e
 same_reading Json c d e = refl
 
 -- the case that bytes say is that of the draft which they say
-said_case : (format : Written) (bytes : List ℕ) (to : Format) (a : Answer) (c : Content) (r : ReportsCase (Prints to a) format bytes a.text)
+said_case : (format : Encoding) (bytes : List ℕ) (to : Format) (a : Answer) (c : Content) (r : ReportsCase (Prints to a) format bytes a.text)
     → (case_in format bytes).Gives c → content_of r.draft ≡ c
 said_case format bytes to a c r g = one_content format bytes (content_of r.draft) c (r.draft, r.says, (r.faultless, refl)) g
 

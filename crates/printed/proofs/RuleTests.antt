@@ -10,7 +10,7 @@ use Rattle.case_model.specs.Content.{Content, IsRejectedIn, content_of}
 use Rattle.case_model.specs.Draft.{ArePValues}
 use Rattle.case_model.specs.Sums.{number_at}
 use Rattle.case_model.specs.declared.inputs.Inputs.TheVariants.{Single as Values}
-use Rattle.command_words.specs.Asked.{Written, on_case}
+use Rattle.command_words.specs.Asked.{Encoding, on_case}
 use Rattle.command_words.specs.declared.command.CaseTask.TheVariants.{Test}
 use Rattle.command_words.specs.Words.{asked_in}
 use Rattle.command_words.proofs.Readings.{stage_decided}
@@ -46,13 +46,13 @@ is_done priority c a g = ap (λ (x : Answer). x.status) g.2.2
 module _ (Rejects : ℕ → Type 0) (c : Content) (ps : List Ratio) (single : c.inputs ≡ Values ps) (few : length c.names ≤ 64)
     (rejects : (j : ℕ) → IsRejectedIn c j ↔ Rejects j) (never_wide : IsNeverWide c) where
   -- a case with a p-value for each of at most 64 hypotheses is one that `test` can take
-  taken : (format : Written) (priority : Priority) (bytes : List ℕ) → (case_in format bytes).Gives c → length bytes ≤ most_bytes
+  taken : (format : Encoding) (priority : Priority) (bytes : List ℕ) → (case_in format bytes).Gives c → length bytes ≤ most_bytes
       → (accepted format (needs_of (Test priority)) (Some bytes)).Gives c
   unfolding needs_of
   taken format priority bytes g within =
       (bytes, (refl, within), (c, g, (c, (subst (λ i. IsOfKind Single i) (sym single) tt, refl), (few, refl))))
 
-  call_not_refused : (format : Written) (priority : Priority) (bytes : List ℕ) (r : Refusal)
+  call_not_refused : (format : Encoding) (priority : Priority) (bytes : List ℕ) (r : Refusal)
       → (accepted format (needs_of (Test priority)) (Some bytes)).Gives c → (case_call format (Test priority) (Some bytes)).Refuses r → ⊥
   unfolding case_call
   call_not_refused format priority bytes r takes (inl h) = (accepted_decided format (needs_of (Test priority)) bytes).not_both c r takes h
@@ -60,7 +60,7 @@ module _ (Rejects : ℕ → Type 0) (c : Content) (ps : List Ratio) (single : c.
       let same = (accepted_decided format (needs_of (Test priority)) bytes).one h.0 c h.1 takes in
       never_refused priority c h.2.0 never_wide (subst (λ x. (answers_on_case (Test priority) x).Refuses h.2.0) same h.2.1)
 
-  not_refused : (words : List (List ℕ)) (format : Written) (priority : Priority) (bytes : List ℕ) (proof : Option (List ℕ)) (r : Refusal)
+  not_refused : (words : List (List ℕ)) (format : Encoding) (priority : Priority) (bytes : List ℕ) (proof : Option (List ℕ)) (r : Refusal)
       → (accepted format (needs_of (Test priority)) (Some bytes)).Gives c
       → AskFor words (on_case format (Test priority)) → (outcome words (Some bytes) proof).Refuses r → ⊥
   unfolding call_of
@@ -69,7 +69,7 @@ module _ (Rejects : ℕ → Type 0) (c : Content) (ps : List Ratio) (single : c.
       let command_is = (stage_decided (asked_in words)).one h.0 (on_case format (Test priority)) h.1 asks in
       call_not_refused format priority bytes r takes (subst (λ command. (call_of command (Some bytes) proof).Refuses r) command_is h.2)
 
-  given_done : (words : List (List ℕ)) (format : Written) (priority : Priority) (bytes : List ℕ) (proof : Option (List ℕ)) (a : Answer)
+  given_done : (words : List (List ℕ)) (format : Encoding) (priority : Priority) (bytes : List ℕ) (proof : Option (List ℕ)) (a : Answer)
       → AskFor words (on_case format (Test priority)) → (outcome words (Some bytes) proof).Gives a → a.status ≡ Done
   unfolding call_of case_call
   given_done words format priority bytes proof a asks h =
@@ -87,7 +87,7 @@ module _ (Rejects : ℕ → Type 0) (c : Content) (ps : List Ratio) (single : c.
     values = R.values;
   }
 
-  pub tested : (words : List (List ℕ)) (format : Written) (priority : Priority) (bytes : List ℕ) (proof : Option (List ℕ)) (a : Answer)
+  pub tested : (words : List (List ℕ)) (format : Encoding) (priority : Priority) (bytes : List ℕ) (proof : Option (List ℕ)) (a : Answer)
       → (case_in format bytes).Gives c → length bytes ≤ most_bytes → AskFor words (on_case format (Test priority))
       → IsAnswerOf (outcome words (Some bytes) proof) a → (a.status ≡ Done) × ReportsRule Rejects priority c a.text
   tested words format priority bytes proof a g within asks (inr h) =

@@ -18,7 +18,7 @@ use Rattle.case_model.proofs.HolmNumbers.{holm_decides}
 use Rattle.case_model.proofs.SequenceOrders.{sequence_decides}
 use Rattle.case_model.proofs.Thresholds.{good_level}
 use Rattle.case_model.proofs.ValidContents.{valid_content, shape}
-use Rattle.command_words.specs.Asked.{Written}
+use Rattle.command_words.specs.Asked.{Encoding}
 use Rattle.textbook.specs.Gatekeeping.{IsGatekeepingRejected}
 use Rattle.textbook.proofs.GateOrders.{gatekeeping_decides}
 use Rattle.textbook.proofs.NeverWide.{holm_decisions, sequence_decisions, fallback_decisions, gatekeeping_decisions}
@@ -28,7 +28,7 @@ use Rattle.printed.specs.Rules.{over, HolmGraphsAreTestedByHolm, SequencesAreTes
 use Rattle.printed.proofs.RuleTests.{tested}
 
 -- a case that bytes denote is valid
-given_valid : (format : Written) (bytes : List ℕ) (c : Content) → (case_in format bytes).Gives c → IsValidContent c
+given_valid : (format : Encoding) (bytes : List ℕ) (c : Content) → (case_in format bytes).Gives c → IsValidContent c
 given_valid format bytes c g = subst IsValidContent (sym g.2.1) (faultless_content g.0 g.2.0 (known_arrivals format bytes g.0 g.1))
 
 module _ (c : Content) (ps : List Ratio) (single : c.inputs ≡ Single ps) (V : IsValidContent c) where

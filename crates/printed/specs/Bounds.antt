@@ -10,7 +10,7 @@ use Rattle.case_model.specs.ClosedTest.{IsClosedRejected}
 use Rattle.case_model.specs.Content.{Content, ForSingle, entangled}
 use Rattle.case_model.specs.DiscoveryBound.{IsBound}
 use Rattle.case_model.specs.Sums.{number_at}
-use Rattle.command_words.specs.Asked.{Written, on_case}
+use Rattle.command_words.specs.Asked.{Encoding, on_case}
 use Rattle.command_words.specs.declared.command.CaseTask.TheVariants.{Bounds}
 use Rattle.report.specs.BoundsReport.{bounds_report}
 use Rattle.graph_cli.specs.Laws.{ReportsCase}
@@ -40,6 +40,6 @@ pub record ReportsSetBounds (c : Content) (text : List ℕ) : Type 0 where
 
 -- what words that ask for `bounds` are answered with status 0 reports the bounds of all sets of the case
 abbrev pub BoundsAreOfTheClosedTest : Type 0
-BoundsAreOfTheClosedTest = (words : List (List ℕ)) (format : Written) (case : List ℕ) (proof : Option (List ℕ)) (a : Answer)
+BoundsAreOfTheClosedTest = (words : List (List ℕ)) (format : Encoding) (case : List ℕ) (proof : Option (List ℕ)) (a : Answer)
     → AskFor words (on_case format Bounds) → IsAnswerOf (outcome words (Some case) proof) a → a.status ≡ Done
     → ReportsCase ReportsSetBounds format case a.text

@@ -5,7 +5,7 @@ use Rattle.answers.specs.declared.answer.Answer.{Answer}
 use Rattle.answers.specs.declared.status.Status.TheVariants.{Done}
 use Rattle.answers.specs.Stages.{IsAnswerOf}
 use Rattle.case_model.specs.Content.{Content}
-use Rattle.command_words.specs.Asked.{Written, text, csv, json, on_case}
+use Rattle.command_words.specs.Asked.{Encoding, text, csv, json, on_case}
 use Rattle.command_words.specs.declared.command.CaseTask.TheVariants.{Canon}
 use Rattle.command_words.specs.declared.format.Format.{Format}
 use Rattle.command_words.specs.declared.format.Format.TheVariants.{Text, Csv, Json}
@@ -14,7 +14,7 @@ use Rattle.graph_cli.specs.Laws.{ReportsCase}
 use Rattle.graph_cli.specs.Outcome.{AskFor, outcome}
 
 -- how what is printed of a case in a format is read again: in that format, and a sheet at the level of the case
-abbrev pub read_again : Format → Content → Written
+abbrev pub read_again : Format → Content → Encoding
 read_again Text c = text
 read_again Csv c = csv (terms c.alpha)
 read_again Json c = json
@@ -26,7 +26,7 @@ pub record IsReadAs (format : Format) (c : Content) (printed : List ℕ) : Type 
 
 -- what words that ask for `canon` are answered with status 0, in whatever format, is read in that format as the case that the bytes say
 abbrev pub CanonIsReadAsTheCase : Type 0
-CanonIsReadAsTheCase = (words : List (List ℕ)) (format : Written) (to : Format) (case : List ℕ) (proof : Option (List ℕ)) (a : Answer)
+CanonIsReadAsTheCase = (words : List (List ℕ)) (format : Encoding) (to : Format) (case : List ℕ) (proof : Option (List ℕ)) (a : Answer)
     → AskFor words (on_case format (Canon to)) → IsAnswerOf (outcome words (Some case) proof) a → a.status ≡ Done
     → ReportsCase (IsReadAs to) format case a.text
 
@@ -45,7 +45,7 @@ pub record AreSameTogether (format : Format) (c d : Content) (one other : List �
 -- if the cases are. If the format is a sheet, the cases have the same level.
 abbrev pub CanonTellsCasesApart : Type 0
 CanonTellsCasesApart =
-    (words others : List (List ℕ)) (format other_format : Written) (to : Format) (case other : List ℕ) (proof other_proof : Option (List ℕ)) (a b : Answer)
+    (words others : List (List ℕ)) (format other_format : Encoding) (to : Format) (case other : List ℕ) (proof other_proof : Option (List ℕ)) (a b : Answer)
     (c d : Content) → AskFor words (on_case format (Canon to)) → AskFor others (on_case other_format (Canon to))
     → IsAnswerOf (outcome words (Some case) proof) a → IsAnswerOf (outcome others (Some other) other_proof) b → a.status ≡ Done → b.status ≡ Done
     → (case_in format case).Gives c → (case_in other_format other).Gives d → AreSameTogether to c d a.text b.text

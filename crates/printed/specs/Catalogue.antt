@@ -15,7 +15,7 @@ use Rattle.case_model.specs.TextbookRules.{IsHolmRejected, IsSequenceRejected, I
 use Rattle.case_model.specs.Validity.{IsValidContent}
 use Rattle.case_model.specs.declared.inputs.Inputs.TheVariants.{Bare}
 use Rattle.catalogue.specs.WeightedGraphs.{names_of}
-use Rattle.command_words.specs.Asked.{Written, on_case, catalogue}
+use Rattle.command_words.specs.Asked.{Encoding, on_case, catalogue}
 use Rattle.command_words.specs.declared.command.CaseTask.TheVariants.{Test}
 use Rattle.command_words.specs.declared.format.Format.TheVariants.{Text}
 use Rattle.command_words.specs.declared.graph_name.SizedGraph.{SizedGraph}
@@ -45,7 +45,7 @@ twentieth = one_over 20
 -- Bytes say the case with p-values, in whatever format, and aren't more than an input may have. Then what words that ask for `test` are answered has
 -- the status 0, by any priority, and reports the rule.
 abbrev pub IsTestedBy : ((ℕ → Number) → ℕ → Type 0) → Content → Type 0
-IsTestedBy Rejects c = (words : List (List ℕ)) (format : Written) (priority : Priority) (bytes : List ℕ) (proof : Option (List ℕ)) (ps : List Ratio)
+IsTestedBy Rejects c = (words : List (List ℕ)) (format : Encoding) (priority : Priority) (bytes : List ℕ) (proof : Option (List ℕ)) (ps : List Ratio)
     (a : Answer) → ArePValues (length c.names) ps → (case_in format bytes).Gives (with_p c ps) → length bytes ≤ most_bytes
     → AskFor words (on_case format (Test priority)) → IsAnswerOf (outcome words (Some bytes) proof) a
     → (a.status ≡ Done) × ReportsRule (Rejects (number_at ps)) priority (with_p c ps) a.text

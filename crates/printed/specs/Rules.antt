@@ -14,7 +14,7 @@ use Rattle.case_model.specs.Sums.{number_at}
 use Rattle.case_model.specs.TextbookGraphs.{IsHolmGraph, IsSequenceGraph, IsFallbackGraph}
 use Rattle.case_model.specs.TextbookRules.{IsHolmRejected, IsSequenceRejected, IsFallbackRejected}
 use Rattle.case_model.specs.declared.inputs.Inputs.TheVariants.{Single}
-use Rattle.command_words.specs.Asked.{Written, on_case}
+use Rattle.command_words.specs.Asked.{Encoding, on_case}
 use Rattle.command_words.specs.declared.command.CaseTask.TheVariants.{Test}
 use Rattle.report.specs.TestReport.{is_rejected, test_report}
 use Rattle.sequential.specs.Decisions.{IsDecision}
@@ -38,7 +38,7 @@ pub record ReportsRule (Rejects : ℕ → Type 0) (priority : Priority) (c : Con
 -- what words that ask for `test` are answered has the status 0, by any priority, and reports what a rule rejects.
 abbrev pub AreTestedBy : (Content → Type 0) → (Content → List Ratio → ℕ → Type 0) → Type 0
 AreTestedBy HasGraph Rejects =
-    (words : List (List ℕ)) (format : Written) (priority : Priority) (bytes : List ℕ) (proof : Option (List ℕ)) (c : Content) (ps : List Ratio) (a : Answer)
+    (words : List (List ℕ)) (format : Encoding) (priority : Priority) (bytes : List ℕ) (proof : Option (List ℕ)) (c : Content) (ps : List Ratio) (a : Answer)
     → (case_in format bytes).Gives c → length bytes ≤ most_bytes → c.inputs ≡ Single ps → is_plain c ≡ true → HasGraph c
     → AskFor words (on_case format (Test priority)) → IsAnswerOf (outcome words (Some bytes) proof) a
     → (a.status ≡ Done) × ReportsRule (Rejects c ps) priority c a.text

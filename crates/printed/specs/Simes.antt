@@ -10,7 +10,7 @@ use Rattle.answers.specs.Stages.{IsAnswerOf}
 use Rattle.case_model.specs.Content.{Content, ForSingle, entangled}
 use Rattle.case_model.specs.DiscoveryBound.{IsBound}
 use Rattle.case_model.specs.Sums.{number_at}
-use Rattle.command_words.specs.Asked.{Written, on_case}
+use Rattle.command_words.specs.Asked.{Encoding, on_case}
 use Rattle.command_words.specs.declared.command.CaseTask.TheVariants.{Simes}
 use Rattle.report.specs.SimesReport.{set_alone, first_set, simes_report}
 use Rattle.simes_test.specs.SimesTest.{IsSimesClosed, IsSimesClosedAlone}
@@ -52,6 +52,6 @@ pub record ReportsSimesTest (c : Content) (text : List ℕ) : Type 0 where
 
 -- what words that ask for `simes` are answered with status 0 reports the closed test of weighted Simes tests on the case
 abbrev pub SimesReportsAreOfTheSimesTest : Type 0
-SimesReportsAreOfTheSimesTest = (words : List (List ℕ)) (format : Written) (case : List ℕ) (proof : Option (List ℕ)) (a : Answer)
+SimesReportsAreOfTheSimesTest = (words : List (List ℕ)) (format : Encoding) (case : List ℕ) (proof : Option (List ℕ)) (a : Answer)
     → AskFor words (on_case format Simes) → IsAnswerOf (outcome words (Some case) proof) a → a.status ≡ Done
     → ReportsCase ReportsSimesTest format case a.text

@@ -7,7 +7,7 @@ use Rattle.answers.specs.Stages.{IsAnswerOf}
 use Rattle.case_model.specs.Content.{Content}
 use Rattle.case_model.specs.StagedCase.{spends_in}
 use Rattle.case_model.specs.declared.draft_stages.Arrival.{Arrival}
-use Rattle.command_words.specs.Asked.{Written, on_case}
+use Rattle.command_words.specs.Asked.{Encoding, on_case}
 use Rattle.command_words.specs.declared.command.CaseTask.TheVariants.{Stages}
 use Rattle.report.specs.StagesReport.{settled_line, stages_report}
 use Rattle.staged_levels.specs.Looks.{arrivals_of}
@@ -34,7 +34,7 @@ pub record RejectAlike (c d : Content) (one other : List ℕ) : Type 0 where
 -- What `stages` answers with status 0 of two cases that differ at most in the order of their arrivals, however they are written, has one line `rejected`.
 abbrev pub StagesAgreeInEveryOrder : Type 0
 StagesAgreeInEveryOrder =
-    (words others : List (List ℕ)) (format other_format : Written) (case other : List ℕ) (proof other_proof : Option (List ℕ)) (a b : Answer)
+    (words others : List (List ℕ)) (format other_format : Encoding) (case other : List ℕ) (proof other_proof : Option (List ℕ)) (a b : Answer)
     (c d : Content) → AskFor words (on_case format Stages) → AskFor others (on_case other_format Stages)
     → IsAnswerOf (outcome words (Some case) proof) a → IsAnswerOf (outcome others (Some other) other_proof) b → a.status ≡ Done → b.status ≡ Done
     → (case_in format case).Gives c → (case_in other_format other).Gives d → HaveSameArrivals c d → RejectAlike c d a.text b.text

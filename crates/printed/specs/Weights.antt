@@ -11,7 +11,7 @@ use Rattle.answers.specs.Stages.{IsAnswerOf}
 use Rattle.case_model.specs.ClosedTest.{Passes, IsLocallyRejected, IsRejected}
 use Rattle.case_model.specs.Content.{Content, entangled}
 use Rattle.case_model.specs.IntersectionWeight.{IsIntersectionWeight}
-use Rattle.command_words.specs.Asked.{Written, on_case}
+use Rattle.command_words.specs.Asked.{Encoding, on_case}
 use Rattle.command_words.specs.declared.command.CaseTask.TheVariants.{Weights}
 use Rattle.report.specs.WeightsReport.{weights_report}
 use Rattle.graph_cli.specs.Laws.{ReportsCase}
@@ -41,6 +41,6 @@ pub record ReportsSetWeights (c : Content) (text : List ℕ) : Type 0 where
 
 -- what words that ask for `weights` are answered with status 0 reports the weights of all intersections of the case
 abbrev pub WeightsAreOfTheIntersections : Type 0
-WeightsAreOfTheIntersections = (words : List (List ℕ)) (format : Written) (case : List ℕ) (proof : Option (List ℕ)) (a : Answer)
+WeightsAreOfTheIntersections = (words : List (List ℕ)) (format : Encoding) (case : List ℕ) (proof : Option (List ℕ)) (a : Answer)
     → AskFor words (on_case format Weights) → IsAnswerOf (outcome words (Some case) proof) a → a.status ≡ Done
     → ReportsCase ReportsSetWeights format case a.text

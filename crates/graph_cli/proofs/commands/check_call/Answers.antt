@@ -3,7 +3,7 @@ use Rattle.answers.specs.declared.refusal.Refusal.{Refusal}
 use Rattle.answers.proofs.Stopping.{source_stops, value_ends, handed_on, concluded, unrefused_handed_on}
 use Rattle.case_model.specs.CaseView.{content}
 use Rattle.case_model.specs.Content.{Content}
-use Rattle.command_words.specs.Asked.{written}
+use Rattle.command_words.specs.Asked.{encoding}
 use Rattle.graph_cli.specs.Accepted.{accepted}
 use Rattle.graph_cli.specs.Commands.{check_call}
 use Rattle.graph_cli.proofs.HandedOn.{told_ends}
@@ -45,7 +45,7 @@ returns-clause-proof_kept g c = λ h. absurd (h (content c.in_ok-accepted.accept
 
 pub returns-in_err-accepted-clause-proof_asked : goal.returns-in_err-accepted-clause-proof_asked
 returns-in_err-accepted-clause-proof_asked g c = λ none. unrefused_handed_on {A = Content} _
-    (accepted (written c.args.format.now) c.check_needs.result (g.S.Source.left c.args.case.now)) _ _ _ c.in_err-accepted.field-0.0 c.from_residual.ensures.1
+    (accepted (encoding c.args.format.now) c.check_needs.result (g.S.Source.left c.args.case.now)) _ _ _ c.in_err-accepted.field-0.0 c.from_residual.ensures.1
     (λ q h. none (q, rw c.check_needs.ensures at h)) c.in_err-accepted.ensures.ends
 
 pub returns-in_err-bytes-clause-proof_asked : goal.returns-in_err-bytes-clause-proof_asked
