@@ -12,7 +12,7 @@ use Rattle.case_model.specs.Draft.{is_short_level}
 use Rattle.case_model.specs.Content.{Content, entangled}
 use Rattle.case_model.specs.StagedTest.{MeetsAt, IsStagedLegal, IsStagedRejected}
 
--- what the hypotheses spend; nothing if there are no stages
+-- what the hypotheses spend; the empty list if there are no stages
 abbrev pub spends_in : Inputs → List Spend
 spends_in (Staged s) = s.spend
 spends_in Bare = []
@@ -26,7 +26,7 @@ spend_at spends k = get_or spends k (Shares [])
 abbrev pub spend_in : Content → ℕ → Spend
 spend_in c = spend_at (spends_in c.inputs)
 
--- each fraction that is spent has parts of at most 10,000
+-- whether each fraction that is spent has parts of at most 10,000
 abbrev pub has_short_fractions : Spend → Bool
 has_short_fractions (Shares fs) = list_all is_short_level fs
 has_short_fractions (Table ss) = true
@@ -38,7 +38,7 @@ stages_in Bare = 0
 stages_in (Single ps) = 0
 
 module _ (c : Content) (values : List Arrival) where
-  -- at a weight, `k` meets its level at the stage of a value that has arrived
+  -- an arrival is a value of `k` that has arrived, and at the weight it meets the level of its stage
   abbrev pub MeetsIn : ℕ → Number → Arrival → Type 0
   MeetsIn = MeetsAt (spend_in c) (number_of c.alpha) values
 

@@ -47,7 +47,7 @@ p_words ps = codes "p" ∷ map number_word ps
 abbrev pub share_words : Ratio → Words
 share_words share = codes "component" ∷ number_word share ∷ []
 
--- its weights
+-- the weights of a component
 abbrev pub weights_words : List Ratio → Words
 weights_words weights = codes "weights" ∷ map number_word weights
 
@@ -73,11 +73,11 @@ arrive_words names a = codes "arrive" ∷ name_at names a.hypothesis ∷ decimal
 
 -- ---- the lines of a case, each by its words
 
--- the coefficient of a power of epsilon is 0
+-- whether the coefficient of a power of epsilon is 0
 abbrev pub is_zero_at : List Ratio → ℕ → Bool
 is_zero_at entry power = is_zero (terms (ratio_at entry power))
 
--- each coefficient of an edge is 0
+-- whether each coefficient of an edge is 0
 unfoldable pub is_absent : List Ratio → Bool
 is_absent entry = is_zero_at entry 0 && is_zero_at entry 1 && is_zero_at entry 2 && is_zero_at entry 3 && is_zero_at entry 4
 
@@ -90,11 +90,11 @@ abbrev pub table_lines : List (List ℕ) → ℕ → List (List Ratio) → List 
 table_lines names place [] = []
 table_lines names place (entry ∷ entries) = edge_lines names place entry ++ table_lines names (place + 1) entries
 
--- there is one component, and its share is 1
+-- whether there is one component and its share is 1
 unfoldable pub is_alone : List Component → Bool
 is_alone ks = length ks == 1 && list_all (λ k. is_one (terms k.share)) ks
 
--- the share of a component, which isn't written of one that is alone
+-- the share of a component, which isn't written if the component is alone
 abbrev pub share_lines : Bool → Ratio → List Words
 share_lines alone share = if alone then [] else share_words share ∷ []
 

@@ -23,7 +23,7 @@ fn sheet_answer(alloc: Global, case: &Case) -> Result<Answer, Trouble>
     Ok(Answer::done(write_csv(alloc, case)?))
 }
 
-/// Answers `canon` to a case: its canonical document in a form.
+/// Returns the answer of `canon` for a case: its canonical document in a form.
 #[tactic(auto, unfolding(crate::specs::Canon::canon_stage))]
 pub fn canon_answer(alloc: Global, case: &Case, form: Form) -> Result<Answer, Trouble>
     ensures { Meets (canon_stage form (content case.now)) result }
