@@ -9,7 +9,7 @@ of each prover: by crate, and by whether it proved the crate, its tests or a pla
 
     bench/gate_minutes.py sample /tmp/gate.json &
     sampler=$!
-    rt ci --anew
+    rt ci
     kill $sampler
 
 `table` prints the rows of the table in bench/README.md, in the order of crates.txt; with the FILE of an earlier run, also the

@@ -69,6 +69,18 @@ def words_of_rt():
     return module
 
 
+def sum_once(crates):
+    """Has the sum of a crate's sources and of those below computed once; rt makes it anew on each way from one crate to another."""
+    plain, sums = crates.stamp, {}
+
+    def stamp_once(crate):
+        if crate.folder not in sums:
+            sums[crate.folder] = plain(crate)
+        return sums[crate.folder]
+
+    crates.stamp = stamp_once
+
+
 def stamp(crate, checksums, done):
     """Writes the stamp of a proved library whose libraries below have theirs; returns whether it has one."""
     if crate.name not in done:
@@ -87,8 +99,9 @@ def main():
     checksums = proved()
     rt = words_of_rt()
     rt.Crate.allowed = rt.handles_of(TOP)
+    sum_once(rt.rtlib.Crate)
     done = {}
-    for crate in rt.crates_of(TOP):
+    for crate in rt.rtlib.crates_below(TOP):
         stamp(crate, checksums, done)
     print(f"{sum(done.values())} libraries of rt ci are ready for rt lib and rt run")
 

@@ -1,4 +1,4 @@
-//! Blocks of a table: a line that says what something is, and the bytes that the lines below it say.
+//! Blocks of a table: a line that names something, and the bytes that the lines below it give.
 use crate::pieces::bytes_of;
 use crate::printed::Printed;
 use anyhow::{Context, Result, bail};
@@ -10,7 +10,7 @@ use std::mem;
 pub struct Block<'a> {
     /// The number of the line, from 1.
     pub line: usize,
-    /// Its first word, and what follows it.
+    /// The first word of the line, and what follows it.
     pub word: &'a str,
     pub rest: &'a str,
     /// The bytes before each gap.
@@ -20,12 +20,12 @@ pub struct Block<'a> {
 }
 
 impl Block<'_> {
-    /// Whether no bytes are below.
+    /// Whether no bytes are below the line.
     pub fn is_bare(&self) -> bool {
         self.fronts.is_empty() && self.bytes.is_empty()
     }
 
-    /// Returns the bytes, among which no gap may be.
+    /// Returns the bytes; fails if there is a gap among them.
     pub fn whole(&self) -> Result<&[u8]> {
         if self.fronts.is_empty() {
             return Ok(self.bytes.as_slice());
@@ -33,7 +33,7 @@ impl Block<'_> {
         bail!("a gap among bytes that are given")
     }
 
-    /// Returns the bytes as what is to be printed.
+    /// Returns the bytes and gaps as what is to be printed.
     pub fn printed(&self) -> Printed<'_> {
         Printed {
             fronts: self.fronts.as_slice(),

@@ -19,7 +19,7 @@ impl Counts {
         })
     }
 
-    /// Counts a text.
+    /// Counts the lines of a text, and computes its digest.
     pub fn of(text: &[u8]) -> Counts {
         let mut digest: u64 = 0xcbf2_9ce4_8422_2325;
         for byte in text {

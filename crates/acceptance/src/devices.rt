@@ -24,7 +24,7 @@ fn puts_of(bytes: &[u8]) -> u64 {
     bytes.len().div_ceil(PUT) as u64
 }
 
-/// Returns what the first puts take, in this number.
+/// Returns the bytes that this number of first puts take.
 fn pieces(bytes: &[u8], puts: u64) -> &[u8] {
     let length = (puts as usize).saturating_mul(PUT);
     bytes.get(..length).unwrap_or(bytes)
@@ -48,7 +48,7 @@ impl Devices<'_> {
         self.puts(findings)
     }
 
-    /// Reports a run that does not end as the row says.
+    /// Reports a run that does not end as the row requires.
     fn expect(&self, findings: &mut Findings, plan: &Plan) -> Result<()> {
         let wanted = Wanted {
             status: self.status,
@@ -58,7 +58,7 @@ impl Devices<'_> {
         findings.expect(self.row, plan, &wanted)
     }
 
-    /// Takes and puts of few bytes, and of nearly all, change nothing.
+    /// Reports a run whose end changes if takes and puts move few bytes, or nearly all.
     fn sizes(&self, findings: &mut Findings) -> Result<()> {
         let case = self.row.case.unwrap_or(b"").len();
         let text = self.text.len();
@@ -70,7 +70,7 @@ impl Devices<'_> {
         Ok(())
     }
 
-    /// Compares what a sink without room holds with what fits.
+    /// Compares what a sink holds in the end with what fits into it, for each room up to that of the whole text.
     fn rooms(&self, findings: &mut Findings) -> Result<()> {
         for room in 0..self.text.len() {
             let wanted = Wanted {
@@ -83,7 +83,8 @@ impl Devices<'_> {
         self.expect(findings, &Plan::of_room(self.text.len()))
     }
 
-    /// Lets each take of the case fail in turn, and each take of the file. Both together are reported as one.
+    /// Lets each take of the case fail in turn, then each take of the file, by itself and together with that of the case. Both
+    /// together are reported as one fault.
     fn takes(&self, findings: &mut Findings) -> Result<()> {
         for take in 1..=takes_of(self.row.case) {
             self.read_fault(findings, take, 0)?;
@@ -105,7 +106,7 @@ impl Devices<'_> {
         self.each_put(findings, &plan, (6, b"read fault\n"), 0)
     }
 
-    /// Returns how many calls of the keeper are made: one for the looks before, and one for each look more.
+    /// Returns how many calls of the keeper are made: one for the looks before, and one for each further look.
     fn keeper_calls(&self) -> usize {
         if self.row.call == Call::Study && self.row.has_keeper {
             self.row.looks_more().saturating_add(1)
@@ -127,7 +128,7 @@ impl Devices<'_> {
         Ok(())
     }
 
-    /// Lets each put of the text fail in turn. The calls of the other devices that would fail are those after it the last.
+    /// Lets each put of the text fail in turn. Each other device would fail at the call after its last one.
     fn puts(&self, findings: &mut Findings) -> Result<()> {
         let plan = Plan {
             case_take: takes_of(self.row.case).saturating_add(1),
@@ -139,8 +140,8 @@ impl Devices<'_> {
         self.each_put(findings, &plan, (self.status, self.text), looks)
     }
 
-    /// Lets each put of a text fail in turn, and then the one after the last, which isn't made. The keeper holds this number of
-    /// looks more than before.
+    /// Lets each put of a text fail in turn, and then the one after the last, which isn't made. The keeper holds `more` looks
+    /// more than before.
     fn each_put(
         &self,
         findings: &mut Findings,

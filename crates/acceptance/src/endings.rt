@@ -18,12 +18,12 @@ pub struct Ended {
     pub status: u8,
     pub printed: Vec<u8>,
     pub looks: Vec<Look>,
-    /// How many bytes of the case weren't taken, at most 8; or none if the next take fails.
+    /// How many bytes of the case weren't taken, at most 8; `None` if the next take fails.
     pub left: Option<usize>,
 }
 
 impl Wanted<'_> {
-    /// Whether a run ended so.
+    /// Whether a run ended as wanted.
     pub fn is(&self, ended: &Ended) -> bool {
         self.status == ended.status
             && self.printed.is(ended.printed.as_slice())

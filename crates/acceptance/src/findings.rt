@@ -1,4 +1,4 @@
-//! What is reported of the runs of a table.
+//! Findings: what is reported of the runs of a table.
 use crate::endings::{Ended, Wanted};
 use crate::plan::Plan;
 use crate::rows::Row;
@@ -8,7 +8,7 @@ use std::alloc::Global;
 use std::fmt;
 use std::fmt::Write;
 
-/// How many rows and runs there were of a table, and what is reported of those that did not end as expected.
+/// How many rows and runs of a table there were, and what is reported of those that did not end as expected.
 #[derive(Drop)]
 pub struct Findings<'a> {
     alloc: Global,
@@ -46,13 +46,13 @@ impl<'a> Findings<'a> {
         given.run(self.alloc, plan)
     }
 
-    /// Runs a row over devices by plan, which is to end so.
+    /// Runs a row over devices by plan, and reports the run if it doesn't end as wanted.
     pub fn expect(&mut self, row: &Row, plan: &Plan, wanted: &Wanted) -> Result<()> {
         let ended = self.run(&row.given(), plan)?;
         self.compare(row, plan, wanted, &ended)
     }
 
-    /// Reports a run over devices by plan that ended otherwise.
+    /// Reports a run over devices by plan if it didn't end as wanted.
     pub fn compare(
         &mut self,
         row: &Row,
@@ -67,7 +67,7 @@ impl<'a> Findings<'a> {
         Ok(())
     }
 
-    /// Reports something of a row.
+    /// Reports something of a row, with the table and the line.
     pub fn tell<D: fmt::Display + Drop>(&mut self, row: &Row, what: D) -> Result<()> {
         let (table, line) = (self.table, row.line);
         write!(self.told, "{table}:{line}: {what}\n")?;

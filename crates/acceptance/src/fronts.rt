@@ -7,14 +7,14 @@ use crate::runs::Given;
 use anyhow::{Context, Result, bail};
 use std::alloc::Global;
 
-/// What stops part way.
+/// The input of which a front part is given.
 #[derive(Clone, Copy, PartialEq, Eq, Debug)]
 enum Part {
     Case,
     File,
 }
 
-/// How many of the front parts, the empty one and the whole among them, end with each status, and how each line begins
+/// How many runs over front parts, the empty one and the whole among them, end with each status, and the beginning of each line
 /// that reports a refusal.
 #[derive(Drop)]
 pub struct Fronts<'a> {
@@ -24,7 +24,7 @@ pub struct Fronts<'a> {
 }
 
 impl<'a> Fronts<'a> {
-    /// Returns what `case STATUS:COUNT ..` or `file STATUS:COUNT ..` says, and the bytes below it.
+    /// Reads `case STATUS:COUNT ..` or `file STATUS:COUNT ..`; `begins` are the bytes below the line.
     pub fn read(alloc: Global, text: &str, begins: &'a [u8]) -> Result<Fronts<'a>> {
         let (part, rest) = text.split_once(' ').context("how many?")?;
         let part = match part {
@@ -75,7 +75,8 @@ impl<'a> Fronts<'a> {
         self.expect_counts(findings, row, statuses.as_slice())
     }
 
-    /// Reports a run over a front part that ends with another status than 0 and 1 and does not print one line.
+    /// Reports a run over a front part that ends with another status than 0 and 1 and does not print exactly one line that begins
+    /// as required.
     fn expect_line(
         &self,
         findings: &mut Findings,
@@ -96,7 +97,7 @@ impl<'a> Fronts<'a> {
         Ok(())
     }
 
-    /// Compares how many runs end with each status, and that none ends with another.
+    /// Reports if the numbers of runs that end with each status, or their sum, aren't as required.
     fn expect_counts(&self, findings: &mut Findings, row: &Row, statuses: &[u8]) -> Result<()> {
         let mut all: usize = 0;
         for (status, wanted) in self.counts.iter().copied() {

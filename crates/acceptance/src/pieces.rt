@@ -1,9 +1,9 @@
-//! The bytes that a line of a table says.
+//! The bytes that a line of a table gives.
 use crate::blocks::Block;
 use anyhow::{Context, Result, bail};
 use std::alloc::Global;
 
-/// Returns the bytes that a line says, by its mark and what follows it; or `None` if the mark is none of bytes.
+/// Returns the bytes that a line gives by its mark and what follows it; `None` if the mark is not one of bytes.
 pub fn bytes_of(
     alloc: Global,
     blocks: &[Block],
@@ -30,7 +30,7 @@ fn with_line_feed(alloc: Global, text: &str) -> Result<Vec<u8>> {
     Ok(bytes)
 }
 
-/// Bytes in hexadecimal.
+/// Returns the bytes that a text gives in hexadecimal.
 fn codes(alloc: Global, text: &str) -> Result<Vec<u8>> {
     let mut bytes = Vec::new(alloc);
     for code in text.split_whitespace() {
@@ -39,7 +39,7 @@ fn codes(alloc: Global, text: &str) -> Result<Vec<u8>> {
     Ok(bytes)
 }
 
-/// Returns a text this number of times, as `TIMES TEXT` says.
+/// Returns a text a number of times, both given by `TIMES TEXT`.
 fn repeated(alloc: Global, text: &str) -> Result<Vec<u8>> {
     let (times, text) = text.split_once(' ').context("how often?")?;
     let mut bytes = Vec::new(alloc);
@@ -59,7 +59,7 @@ fn named<'a>(blocks: &'a [Block], name: &str) -> Result<&'a [u8]> {
     bail!("no text {name}")
 }
 
-/// Returns the bytes of a named text, and the number of one of its lines, as `NAME NUMBER` says.
+/// Returns the bytes of a named text, and the number of one of its lines, both given by `NAME NUMBER`.
 fn named_line<'a>(blocks: &'a [Block], text: &str) -> Result<(&'a [u8], usize)> {
     let (name, number) = text.split_once(' ').context("which line?")?;
     Ok((named(blocks, name)?, number.parse::<usize>()?))

@@ -11,7 +11,7 @@ pub struct Printed<'a> {
 }
 
 impl<'a> Printed<'a> {
-    /// Returns these bytes.
+    /// Returns these bytes, without a gap.
     pub fn of(bytes: &'a [u8]) -> Printed<'a> {
         Printed {
             fronts: &[],
@@ -30,7 +30,7 @@ impl<'a> Printed<'a> {
         }
     }
 
-    /// Whether lines hold these, one after another, and end in the last.
+    /// Whether lines hold these bytes, one after another and each from the beginning of a line, and end with the last bytes.
     fn ends(&self, lines: &[u8], fronts: &[Vec<u8>]) -> bool {
         let mut rest = lines;
         for front in fronts {
@@ -46,7 +46,7 @@ impl<'a> Printed<'a> {
     }
 }
 
-/// Returns what follows the first place, at the beginning of a line, where these bytes are.
+/// Returns what follows these bytes at the first line that begins with them; `None` if no line does.
 fn behind<'a>(lines: &'a [u8], bytes: &[u8]) -> Option<&'a [u8]> {
     let mut rest = lines;
     for line in lines.split_inclusive(|byte| *byte == b'\n') {

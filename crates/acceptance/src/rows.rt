@@ -29,10 +29,10 @@ pub struct Row<'a> {
     pub line: usize,
     pub call: Call,
     pub words: Vec<String>,
-    /// The bytes on standard input, and those of the file, where they may be read.
+    /// The bytes on standard input, and those of the file, if they may be read.
     pub case: Option<&'a [u8]>,
     pub file: Option<&'a [u8]>,
-    /// Whether the keeper may be asked, the looks that it holds in the end, and how many of them it holds before.
+    /// Whether the keeper may be called, the looks that it holds in the end, and how many of them it holds before.
     pub has_keeper: bool,
     pub looks: Vec<Look>,
     pub kept: usize,
@@ -58,7 +58,7 @@ pub struct Ending<'a> {
 }
 
 impl<'a> Row<'a> {
-    /// Returns a row that begins at a line, of which nothing is said but its words.
+    /// Returns a row that begins at a line and has only its words yet.
     fn new(alloc: Global, line: usize, call: Call, words: &str) -> Result<Row<'a>> {
         Ok(Row {
             line,
@@ -104,12 +104,12 @@ impl<'a> Row<'a> {
         looks.get(..self.kept.saturating_add(more)).unwrap_or(looks)
     }
 
-    /// Returns how many looks the keeper holds also in the end.
+    /// Returns how many further looks the keeper holds in the end.
     pub fn looks_more(&self) -> usize {
         self.looks.len().saturating_sub(self.kept)
     }
 
-    /// Takes what a block says.
+    /// Puts what a block gives into the row.
     fn take(&mut self, alloc: Global, block: &'a Block) -> Result<()> {
         match (block.word, block.rest) {
             ("case", "") => put_once(&mut self.case, block.whole()?),
@@ -124,7 +124,7 @@ impl<'a> Row<'a> {
         }
     }
 
-    /// Takes what a line says below which there are no bytes.
+    /// Puts what a line without bytes below it gives into the row.
     fn take_bare(&mut self, block: &Block) -> Result<()> {
         if !block.is_bare() {
             bail!("bytes below {}", block.word);
@@ -170,7 +170,7 @@ fn ending_of<'a>(status: &str, block: &'a Block) -> Result<Ending<'a>> {
     })
 }
 
-/// Returns a look, as `POSITION STAGE P` says, by the position of its hypothesis, from 0.
+/// Reads a look from `POSITION STAGE P`; the position of its hypothesis counts from 0.
 fn look_of(text: &str) -> Result<Look> {
     let (hypothesis, rest) = text.split_once(' ').context("no stage")?;
     let (stage, p) = rest.split_once(' ').context("no p-value")?;
@@ -184,7 +184,7 @@ fn look_of(text: &str) -> Result<Look> {
     })
 }
 
-/// Takes what a block says: a text, which others name, or a row, or something of the last row.
+/// Takes a block: it is a text, which other blocks name, or begins a row, or gives something of the last row.
 fn take<'a>(alloc: Global, rows: &mut Vec<Row<'a>>, block: &'a Block) -> Result<()> {
     let call = match block.word {
         "text" => return Ok(()),
@@ -203,7 +203,7 @@ fn take<'a>(alloc: Global, rows: &mut Vec<Row<'a>>, block: &'a Block) -> Result<
     Ok(())
 }
 
-/// Returns the rows that blocks say.
+/// Returns the rows that blocks give.
 pub fn read_rows<'a>(alloc: Global, blocks: &'a [Block]) -> Result<Vec<Row<'a>>> {
     let mut rows = Vec::new(alloc);
     for block in blocks {

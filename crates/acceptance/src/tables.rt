@@ -25,7 +25,7 @@ pub fn run_table<'a>(alloc: Global, name: &'a str, table: &str) -> Result<Findin
     Ok(findings)
 }
 
-/// Runs a row, and, if it ends as it is to, all that it says also.
+/// Runs a row, and if the run ends as it is to, makes the further runs that the row requires.
 fn run_row(alloc: Global, findings: &mut Findings, row: &Row) -> Result<()> {
     let ending = row.ending.context("no end")?;
     let wanted = Wanted {
@@ -44,7 +44,8 @@ fn run_row(alloc: Global, findings: &mut Findings, row: &Row) -> Result<()> {
     Ok(())
 }
 
-/// Reports a case that is not taken to its end, but for what the row leaves. If there is no case, no take is to be made.
+/// Reports if the bytes of the case that aren't taken are more or fewer than the row leaves. If there is no case, no take is to
+/// be made.
 fn expect_left(findings: &mut Findings, row: &Row, ended: &Ended) -> Result<()> {
     let wanted = row.case.map(|_| row.leaves);
     let came = ended.left;
@@ -68,7 +69,7 @@ fn expect_counts(findings: &mut Findings, row: &Row, ended: &Ended) -> Result<()
     Ok(())
 }
 
-/// Runs what a row says also of a run that ended as it is to.
+/// Makes the further runs that a row requires after a run that ended as it is to.
 fn run_besides(alloc: Global, findings: &mut Findings, row: &Row, ended: &Ended) -> Result<()> {
     if let Some(text) = row.checked {
         run_check(alloc, findings, row, ended, text)?;
@@ -84,7 +85,7 @@ fn run_besides(alloc: Global, findings: &mut Findings, row: &Row, ended: &Ended)
     Ok(())
 }
 
-/// Reports if `check` does not say yes to what was printed, or does not print this.
+/// Reports if `check` does not end with status 0 on what was printed, or does not print this text.
 fn run_check(
     alloc: Global,
     findings: &mut Findings,

@@ -1,7 +1,7 @@
 //! The words of a row.
 use std::alloc::{AllocError, Global};
 
-/// Returns the words of a text, which blanks part. What is in double quotes is one word, with its blanks, if any.
+/// Returns the words of a text, which blanks separate. What is in double quotes is one word, with its blanks, if any.
 pub fn words_of(alloc: Global, text: &str) -> Result<Vec<String>, AllocError> {
     let mut words = Vec::new(alloc);
     let mut quoted = false;

@@ -30,10 +30,10 @@ AdjustedValuesDecideCases =
 abbrev pub AdjustedListsAreUnique : Type 0
 AdjustedListsAreUnique = (c : Content) (xs ys : List Adjusted) → AreAdjusted c xs → AreAdjusted c ys → xs ≡ ys
 
--- The written run is undefined first at one place at most.
+-- The written run is first undefined in at most one step and at most one operation.
 abbrev pub WideRunsAreUnique : Type 0
 WideRunsAreUnique = (c : Content) (m n : ℕ) (v w : WideAt) → IsWideAdjusting c m v → IsWideAdjusting c n w → (m ≡ n) × (v ≡ w)
 
--- At the level 1 the least ratio is legal exactly if it is at most 1.
+-- At the level 1 the hypothesis with the least ratio is legal exactly if its ratio is at most 1.
 abbrev pub RunsStopAboveOne : Type 0
 RunsStopAboveOne = (E : EntangledGraph) (p : ℕ → Number) (I : ℕ → Bool) (j : ℕ) → IsLeastLegalRatio E p number_one I j ↔ IsLeastToOne E p I j

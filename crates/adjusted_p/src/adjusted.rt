@@ -22,8 +22,8 @@ use fraction::Fraction;
 use sequential::Trial;
 use std::alloc::Global;
 
-/// The adjusted value of a hypothesis. It is the least level from 0 to 1 at which the closed test rejects it, and is reached.
-/// If no level up to 1 rejects it, it is 1, not reached.
+/// The adjusted value of a hypothesis: the least level from 0 to 1 at which the closed test rejects the hypothesis, marked as
+/// reached. If the test rejects it at no such level, the value is 1, marked as not reached.
 #[derive(Clone, Copy, PartialEq, Eq, Debug)]
 pub struct Adjusted {
     pub value: Fraction,
@@ -44,7 +44,7 @@ fn level_one() -> Fraction
     Fraction::one()
 }
 
-/// Returns a list of values of 1 that aren't reached, of this length.
+/// Returns a list of `count` values of 1 that aren't reached.
 fn none_reached(alloc: Global, count: usize) -> Result<List<Adjusted>, NoMemory>
     ensures { IfOk result (λ values. values ≡ replicate count not_reached) }
 {
@@ -58,7 +58,7 @@ fn none_reached(alloc: Global, count: usize) -> Result<List<Adjusted>, NoMemory>
     Ok(values)
 }
 
-/// Rejects by the least ratio at the level 1, one hypothesis after another, and gives the values.
+/// Rejects by the least ratio at the level 1, one hypothesis after another, and returns the adjusted values.
 fn run(alloc: Global, current: &mut Trial) -> Result<List<Adjusted>, AdjustFault>
     requires { (trial current.old).rejected ≡ [] }
     ensures run { IfOk result (λ values. (c : Content) → IsTrialOf c (trial current.old) → c.alpha ≡ one_ratio
@@ -88,11 +88,11 @@ fn run(alloc: Global, current: &mut Trial) -> Result<List<Adjusted>, AdjustFault
 }
 
 /// Returns the adjusted values of a case that has a p-value for each hypothesis, by ascending position. Each is the least level
-/// from 0 to 1 at which the closed test rejects the hypothesis, and is reached. If no such level rejects it, the value is 1 and
-/// not reached.
+/// from 0 to 1 at which the closed test rejects the hypothesis, and is reached. If the test rejects it at no such level, the value
+/// is 1 and not reached.
 ///
 /// The run takes the remaining hypothesis with the least ratio of p-value and weight, the first among equals, as long as the
-/// ratio is at most 1. The value is the greater of the ratio and the value before. Unless out of memory, it is
+/// ratio is at most 1. Its value is the greater of the ratio and the value before. Unless out of memory, the call is refused with
 /// `AdjustFault::Wide` exactly if this written run is undefined, with the step, counted from 1; step 0 is the opening.
 pub fn adjust(alloc: Global, case: &Case) -> Result<List<Adjusted>, AdjustFault>
     requires { IsSingle (content case.now).inputs }

@@ -18,7 +18,7 @@ pub fn adjusted_lists_are_unique()
     ensures { AdjustedListsAreUnique }
 {}
 
-/// The written run of the adjusted values of a case is undefined first in one step and at one operation at most.
+/// The written run of the adjusted values of a case is first undefined in at most one step and at most one operation.
 pub fn wide_runs_are_unique()
     ensures { WideRunsAreUnique }
 {}

@@ -31,14 +31,14 @@ stop_line stops.ReadFault = read_fault
 stop_line stops.KeeperFault = keeper_fault
 stop_line stops.NoMemory = no_memory
 
--- an input, named by these words, has more bytes than it may have; this number was read
+-- an input, named by these words, has more bytes than are allowed, of which `n` were read
 unfoldable pub bytes_refusal : List ℕ → ℕ → Refusal
 bytes_refusal name n = record { cause = Limit; line = line (codes "limit: " ++ name ++ codes "bytes " ++ decimal n) }
 
--- the answer that a refusal is
+-- a refusal as an answer
 abbrev pub refused : Refusal → Answer
 refused r = record { status = Refused r.cause; text = r.line }
 
--- a text with which all is done
+-- the answer with this text and the status `Done`
 abbrev pub done : List ℕ → Answer
 done text = record { status = Done; text = text }

@@ -11,7 +11,7 @@ use Rattle.answers.specs.Devices.{Writing}
 use Rattle.answers.specs.Lines.{read_fault, no_memory, keeper_fault, stop_line, refused}
 use Rattle.answers.specs.Ways.{Ways, EndsIn}
 
--- what is put of an outcome: the text of the answer, or the line that says why there is none
+-- what is put for an outcome: the text of the answer, or the line that says why there is none
 abbrev pub text_of : Result Answer Stop → List ℕ
 text_of (Ok a) = a.text
 text_of (Err stop) = stop_line stop
@@ -42,7 +42,7 @@ pub record IsAnswered (w : Ways Answer) (old new : Option (List ℕ)) (status : 
   pub status_is : status ≡ status_code answer.status
   pub put : Appends old new answer.text
 
--- The sink holds a prefix of what is put of an outcome that the call may have.
+-- After its old bytes the sink holds a prefix of what is put for an outcome that the call may have.
 pub record IsCutShort (w : Ways Answer) (old new : Option (List ℕ)) : Type 0 where
   pub outcome : Result Answer Stop
   pub ends : EndsIn w outcome
@@ -55,8 +55,8 @@ pub record IsPutBriefly (w : Ways Answer) (old new : Writing) (status : ℕ) : T
   pub finished : Finished old new (text_of outcome) (status_of outcome) status
   pub puts : new.calls ≤ old.calls + length (text_of outcome)
 
--- What a top call does, by its status. `w` has the ways in which the call may end, and `old` and `new` are what the sink was and is. It had a fault in
--- this call if its count of faults rose.
+-- What a top call does, by its status. `w` are the ways in which the call may end, and `old` and `new` are the sink before and after the call. The
+-- sink had a fault in this call if its count of faults rose.
 pub record Runs (w : Ways Answer) (old new : Writing) (status : ℕ) : Type 0 where
   pub done : status ≤ 5 → IsAnswered w old.held new.held status
   pub read : status ≡ 6 → w.read × Appends old.held new.held read_fault
@@ -69,7 +69,7 @@ pub record Runs (w : Ways Answer) (old new : Writing) (status : ℕ) : Type 0 wh
   pub known : status ≤ 9
   pub brief : IsPutBriefly w old new status
 
--- What a top call does to a source. If it doesn't read it, it leaves it as it was. With status 0 it has read it to its end.
+-- What a top call does to a source. A source that the call doesn't read stays as it was; one that it reads is at its end if the status is 0.
 pub record Uses {S : Type 0} (left : S → Option (List ℕ)) (Reads : Type 0) (old new : S) (status : ℕ) : Type 0 where
   pub untouched : ¬ Reads → new ≡ old
   pub end : Reads → status ≡ 0 → IsAtEnd (left new)

@@ -15,7 +15,7 @@ pub record IsDecided {R A : Type 0} (s : Stage R A) : Type 0 where
   pub one_refusal : (r q : R) → s.Refuses r → s.Refuses q → r ≡ q
   pub not_both : (x : A) (r : R) → s.Gives x → s.Refuses r → ⊥
 
--- the one stage, and then the other on what the first one gives
+-- one stage, and then another on the value that the first one gives
 abbrev pub and_then : {R A B : Type 0} → Stage R A → (A → Stage R B) → Stage R B
 and_then {R} {A} {B} s t = record {
   Gives = λ y. (x : A) × s.Gives x × (t x).Gives y;
@@ -26,7 +26,7 @@ and_then {R} {A} {B} s t = record {
 abbrev pub told_as : {Q R A : Type 0} → (Q → R) → Stage Q A → Stage R A
 told_as {Q} tell s = record { Gives = s.Gives; Refuses = λ r. (q : Q) × s.Refuses q × (r ≡ tell q) }
 
--- a stage whose values are known by what a view shows of them
+-- the stage of the values whose views the given stage gives
 abbrev pub seen_by : {R A B : Type 0} → (A → B) → Stage R B → Stage R A
 seen_by view s = record { Gives = λ x. s.Gives (view x); Refuses = s.Refuses }
 
@@ -50,6 +50,6 @@ within name bytes = record {
   Refuses = λ r. (most_bytes < length bytes) × (r ≡ bytes_refusal name (most_bytes + 1));
 }
 
--- what a stage gives, or the answer that its refusal is
+-- what a stage gives, or its refusal as an answer
 abbrev pub IsAnswerOf : Stage Refusal Answer → Answer → Type 0
 IsAnswerOf s a = s.Gives a ⊎ ((r : Refusal) × s.Refuses r × (a ≡ refused r))

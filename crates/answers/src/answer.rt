@@ -14,7 +14,7 @@ pub struct Answer {
 impl Answer {
     ghost use Rattle.answers.specs.Lines.{done};
 
-    /// Returns a text with which all is done.
+    /// Returns the answer with this text and the status `Done`.
     pub fn done(text: List<u8>) -> Answer
         ensures { result ≡ done text }
     {

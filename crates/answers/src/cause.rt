@@ -13,7 +13,7 @@ pub enum Cause {
 impl Cause {
     ghost use Rattle.answers.specs.Codes.{cause_code};
 
-    /// Returns its number as a status of the program.
+    /// Returns the status of the program for this cause.
     pub fn code(self) -> u8
         ensures { result ≡ cause_code self }
     {

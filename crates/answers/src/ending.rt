@@ -1,4 +1,4 @@
-//! Putting what a call answers.
+//! How a call ends: its answer, or the line that says why there is none, is put into the sink.
 ghost use Rattle.std.specs.Prelude.{◌≤◌, ◌+◌, length};
 ghost use Rattle.answers.specs.Devices.{writing};
 ghost use Rattle.answers.specs.Runs.{Finished, text_of, status_of};
@@ -20,8 +20,8 @@ fn finish<W: Sink>(out: &mut W, text: &[u8], status: u8) -> u8
 
 /// Puts an answer, or the line that says why there is none, and returns the status.
 ///
-/// The status is that of the answer or of the refusal; 6 if a source had a fault, 8 out of memory, 9 if the keeper had a fault.
-/// It is 7 if putting failed.
+/// The status is that of the answer or of the refusal. It is 6 if a source had a fault, 8 when out of memory, and 9 if the keeper
+/// had a fault; but 7 if putting failed.
 pub fn conclude<W: Sink>(out: &mut W, outcome: &Result<Answer, Stop>) -> u8
     ensures finished { Finished (writing W.Sink out.old) (writing W.Sink out.new)
         (text_of outcome.now) (status_of outcome.now) result }

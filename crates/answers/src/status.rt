@@ -6,7 +6,7 @@ use crate::cause::Cause;
 /// How a call ended that had no fault.
 #[derive(Clone, Copy, PartialEq, Eq, Debug)]
 pub enum Status {
-    /// It is done.
+    /// The call is done.
     Done,
     /// What was to be checked doesn't hold.
     No,
@@ -16,7 +16,7 @@ pub enum Status {
 impl Status {
     ghost use Rattle.answers.specs.Codes.{status_code};
 
-    /// Returns its number as a status of the program.
+    /// Returns the status of the program for this ending.
     pub fn code(self) -> u8
         ensures { result ≡ status_code self }
     {

@@ -17,7 +17,7 @@ impl Stop {
     ghost use Rattle.answers.specs.Codes.{stop_code};
     ghost use Rattle.answers.specs.Lines.{stop_line};
 
-    /// Returns the line that is printed of it.
+    /// Returns the line that is printed for it.
     #[tactic(auto, unfolding(crate::specs::Lines::read_fault, crate::specs::Lines::keeper_fault, crate::specs::Lines::no_memory))]
     pub fn line(&self) -> &[u8]
         ensures { result.now ≡ stop_line self.now }
@@ -30,7 +30,7 @@ impl Stop {
         }
     }
 
-    /// Returns its number as a status of the program.
+    /// Returns the status of the program for this stop.
     pub fn code(&self) -> u8
         ensures { result ≡ stop_code self.now }
     {

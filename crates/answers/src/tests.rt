@@ -1,4 +1,4 @@
-//! Answers and refusals, and what is put of them.
+//! Answers and refusals, and the texts that are put for them.
 use crate::whole::bytes_refusal;
 use crate::{Answer, Cause, Refusal, Status, Stop, conclude, take_whole};
 use field_core::{List, NoMemory};
@@ -42,7 +42,7 @@ fn a_whole_input(rt: HostRuntime) -> Result<(), Fail> {
     }
 }
 
-/// Holds a call to what is put of an outcome.
+/// Asserts which status `conclude` returns for an outcome, and which text it puts.
 fn expect(
     rt: &impl Abort,
     alloc: Global,

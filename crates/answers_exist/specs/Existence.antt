@@ -1,4 +1,4 @@
--- What the definitions of the outcome promise: there is one.
+-- By the definitions of the outcome, an outcome always exists.
 use Rattle.std.specs.Prelude.{ℕ, List, Option}
 use Rattle.graph_io.specs.declared.keeper.Look.{Look}
 use Rattle.answers.specs.declared.answer.Answer.{Answer}
@@ -7,7 +7,7 @@ use Rattle.graph_cli.specs.Outcome.{outcome}
 use Rattle.study_cli.specs.StudyOutcome.{study_outcome}
 use Rattle.answers_exist.specs.Ends.{Ends}
 
--- Whatever the words, the case and the proof, there is an answer that they call for. (A source may expose its bytes or not.)
+-- Whatever the words, the case and the proof, there is an answer that they require. (A source may expose its bytes or not.)
 abbrev pub CallsHaveAnAnswer : Type 0
 CallsHaveAnAnswer = (words : List (List ℕ)) (case proof : Option (List ℕ)) → (a : Answer) × IsAnswerOf (outcome words case proof) a
 

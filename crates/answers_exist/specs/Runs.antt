@@ -1,4 +1,4 @@
--- That the written runs of a case end: with what they are to give, or at the first operation that is undefined.
+-- The written runs of a case end with a result, or at the first operation that is undefined.
 use Rattle.std.specs.Prelude.{◌≡◌, ◌⊎◌, ℕ, List, Ok, Err}
 use Rattle.field_core.specs.declared.place.WideAt.{WideAt}
 use Rattle.field_core.specs.declared.ratio.Ratio.{Ratio}
@@ -23,14 +23,15 @@ use Rattle.evidence.specs.CaseFlows.{IsCompleteOrder, case_flows}
 use Rattle.evidence.specs.FlowRun.{WideStep}
 use Rattle.evidence.specs.Made.{written_evidence}
 
--- A case with a p-value for each hypothesis has a decision by each priority, and its written run is defined; or the run is undefined first at a place.
+-- A case with a p-value for each hypothesis has a decision by each priority, and its written run is defined; or there is a first undefined operation of
+-- the run.
 abbrev pub DecisionsEnd : Type 0
 DecisionsEnd =
     (c : Content) (priority : Priority) (ps : List Ratio) → IsValidContent c → c.inputs ≡ Single ps
     → ((d : Decision) × ((n : ℕ) (w : WideAt) → ¬ IsWideDecision c priority n w) × IsDecision c priority d)
     ⊎ ((n : ℕ) × (w : WideAt) × IsWideDecision c priority n w)
 
--- It has adjusted values, and their written run is defined; or the run is undefined first at a place.
+-- A case with a p-value for each hypothesis has adjusted values, and their written run is defined; or there is a first undefined operation of the run.
 abbrev pub AdjustedRunsEnd : Type 0
 AdjustedRunsEnd =
     (c : Content) (ps : List Ratio) → IsValidContent c → c.inputs ≡ Single ps
@@ -50,7 +51,7 @@ SetRunsEnd =
     (c : Content) → IsValidContent c
     → (AreRunsDefined c × ((weight : ℕ → ℕ → Ratio) × AreIntersectionWeights c weight)) ⊎ ((n : ℕ) × (w : WideAt) × IsFirstWideSet c n w)
 
--- The flow run of a case along a complete legal order gives evidence of version 2 that fits the case, or is undefined first at a place.
+-- The flow run of a case along a complete legal order gives evidence of version 2 that fits the case, or it has a first undefined operation.
 abbrev pub FlowRunsEnd : Type 0
 FlowRunsEnd =
     (c : Content) (js : List ℕ) → IsValidContent c → IsCompleteOrder c js

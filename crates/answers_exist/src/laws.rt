@@ -1,9 +1,9 @@
-//! Laws of the outcomes of calls and of studies: there is one. Each function states laws, and does nothing.
+//! Laws of the outcomes of calls and of studies: an outcome always exists. Each function states laws, and does nothing.
 ghost use Rattle.answers_exist.specs.Existence.{CallsHaveAnAnswer, StudiesHaveAnOutcome};
 ghost use Rattle.answers_exist.specs.Runs.{DecisionsEnd, AdjustedRunsEnd, LooksEnd, SetRunsEnd, FlowRunsEnd};
 
-/// For all words, cases and proofs there is an answer that the words call for. By `calls_have_one_answer` of `graph_cli` there is
-/// no other.
+/// For all words, cases and proofs there is an answer that they require. By `calls_have_one_answer` of `graph_cli` there is no
+/// other.
 pub fn calls_have_an_answer()
     ensures { CallsHaveAnAnswer }
 {}
@@ -14,8 +14,8 @@ pub fn studies_have_an_outcome()
     ensures { StudiesHaveAnOutcome }
 {}
 
-/// What is written for a case ends, hypothesis by hypothesis, look by look or set by set. It gives a result, or stops at the first
-/// operation that is undefined.
+/// The written runs of a case end, hypothesis by hypothesis, look by look or set by set. A run gives a result, or stops at the
+/// first operation that is undefined.
 pub fn written_runs_end()
     ensures decisions { DecisionsEnd }
     ensures adjusted { AdjustedRunsEnd }

@@ -15,7 +15,7 @@ pub record RowFault : Type 0 where
 abbrev pub row_fault : RowFault → CsvFault
 row_fault fault = faults.Row fault.row fault.column fault.kind
 
--- the answer, its fault as the crate reports it
+-- the answer, with its fault as the crate reports it
 abbrev pub told : {A : Type 0} → Result A RowFault → Result A CsvFault
 told answer = told_as row_fault answer
 
@@ -23,7 +23,7 @@ told answer = told_as row_fault answer
 abbrev pub IsAnswer : {A : Type 0} → Result A CsvFault → Result A RowFault → Type 0
 IsAnswer result answer = IsUnless faults.NoMemory result (told answer)
 
--- what a cell returns, its fault with the number of its record and its column
+-- the answer of a cell, with its fault at the number of its record and its column
 abbrev pub at : {A : Type 0} → ℕ → ℕ → Result A RowKind → Result A RowFault
 at row column answer = told_as (λ kind. record { row = row; column = column; kind = kind }) answer
 

@@ -50,7 +50,7 @@ is_heading place cell =
 abbrev pub has_heading : Cells → ℕ → Bool
 has_heading header place = nat_lt place (length header) && is_heading place (cell_at header place)
 
--- nothing if it has, and else the fault
+-- nothing if the header has a cell at the place that is allowed there, and else the fault
 abbrev pub heading : Cells → ℕ → Result (Unit {0}) RowFault
 heading header place = at 1 (place + 1) (holds_or Header (has_heading header place))
 
@@ -64,7 +64,7 @@ header_of header = do
 
 -- ---- a row
 
--- a cell of a p-value that is not given: nothing or `NA`
+-- whether a cell is that of a p-value that is not given: nothing or `NA`
 abbrev pub is_missing : List ℕ → Bool
 is_missing cell = (length cell == 0) || bytes_eq cell (codes "NA")
 
@@ -84,7 +84,7 @@ p_value_of cell = given_or (is_missing cell) cell
 abbrev pub edge_of : List ℕ → Result (List Ratio) RowKind
 edge_of cell = told_as Expr (entry_of cell)
 
--- the cells before the edges, in the record of a number: as wide as the header, the name, a weight, a p-value or none
+-- the cells before the edges, in the record of this number: the record is as wide as the header, and has the name, a weight, and a p-value or none
 abbrev pub start_of : ℕ → ℕ → List ℕ → Cells → Result Start RowFault
 start_of width number name cells = do
   wide ← at number 1 (holds_or Width (length cells == width))
@@ -93,7 +93,7 @@ start_of width number name cells = do
   p ← at number 3 (p_value_of (cell_at cells 2))
   Ok (record { weight = weight; p = p })
 
--- the edges of a row, from left to right, the first of them in this column
+-- the edges of a row, from left to right, of which the first is in this column
 abbrev pub entries_of : ℕ → ℕ → Cells → Result (List (List Ratio)) RowFault
 entries_of number column [] = Ok []
 entries_of number column (cell ∷ cells) = do
@@ -120,7 +120,7 @@ row_of width number name cells = do
 abbrev pub wrong_count : {A : Type 0} → ℕ → Result A RowFault
 wrong_count number = Err (record { row = number; column = 1; kind = Count })
 
--- a row for each name, in their order, the first of them in the record of this number
+-- a row for each name, in their order, of which the first is in the record of this number
 abbrev pub rows_of : ℕ → ℕ → List (List ℕ) → List Cells → Result (List RowSaid) RowFault
 rows_of width number [] [] = Ok []
 rows_of width number [] (surplus ∷ records) = wrong_count number

@@ -71,7 +71,7 @@ pub fn has_heading(header: &ByteRecord, place: usize) -> bool
     place < width(header) && is_heading(place, cell(header, place))
 }
 
-/// Whether a cell has no p-value.
+/// Whether a cell is that of a missing p-value: empty or `NA`.
 fn is_missing(cell: &[u8]) -> bool
     ensures { result ≡ is_missing cell.now }
 {

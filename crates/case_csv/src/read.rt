@@ -19,8 +19,8 @@ use field_core::{List, NoMemory, Number, Text};
 use fraction::Fraction;
 use std::alloc::Global;
 
-/// Reads the case that CSV denotes at a level. Reports the first faulty record, or else the error of the draft, or
-/// `NoMemory`.
+/// Reads the case that CSV denotes at a level. It is refused with the first faulty record, or else with the first error in the
+/// draft, or with `NoMemory`.
 ///
 /// The first record is the header: a cell that is empty or `hypothesis`, then `weight`, `p` and the names. Each further record
 /// is a row: a name of the header, in its order, a weight, a p-value, and for each hypothesis the weight of the edge to it.
@@ -53,7 +53,7 @@ fn draft(alloc: Global, bytes: &[u8], alpha: Fraction) -> Result<Draft, CsvFault
     Ok(one_component(alloc, alpha, names, table)?)
 }
 
-/// Returns the draft of a table.
+/// Returns the draft of a table, with one component of share 1.
 fn one_component(
     alloc: Global,
     alpha: Fraction,
@@ -78,7 +78,7 @@ fn one_component(
     })
 }
 
-/// Returns the fault of CSV whose draft gives no case.
+/// Returns the fault of CSV whose draft is refused.
 fn csv_fault(refused: Refused) -> CsvFault
     ensures { ((refused.fault ≡ OutOfMemory) × (result ≡ faults.NoMemory))
         ⊎ ((refused.fault ≢ OutOfMemory) × (result ≡ faults.Case refused)) }

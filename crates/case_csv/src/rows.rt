@@ -14,7 +14,7 @@ use csv::{ByteRecord, Reader};
 use field_core::{List, NoMemory, Text};
 use std::alloc::Global;
 
-/// Checks the cell at a place of the header, from 0.
+/// Refuses a header whose cell at this place, from 0, is missing or wrong.
 fn heading(row: &ByteRecord, place: usize) -> Result<(), CsvFault>
     requires { place < 3 }
     ensures { IsAnswer result (heading (cells row.now) place) }
@@ -56,7 +56,7 @@ fn name_at(names: &[Text], place: usize) -> &[u8]
     names[place].as_bytes()
 }
 
-/// Reads the records after a header of this width and these names.
+/// Reads the records after a header with this number of columns and these names.
 pub fn rows(
     alloc: Global,
     records: &mut Reader<&[u8]>,

@@ -28,7 +28,8 @@ pub struct Table {
     pub edges: List<DraftEdge>,
 }
 
-/// Reads the cells before the edges, in the row of a name, the record of a number. The header has `columns` cells.
+/// Reads the cells before the edges in the record with this number, which must be the row of this name. The header has `columns`
+/// cells.
 fn first_cells(
     row: &ByteRecord,
     number: usize,

@@ -42,7 +42,7 @@ part_at key read (Some part) = told_as (under key) (read part)
 abbrev pub at : {A : Type 0} → List ℕ → Reader A → Reader A
 at key read value = part_at key read (get key value)
 
--- the same, with a value in place of a missing part
+-- what a reader returns for the part at a key, and this value if the part is missing
 abbrev pub part_or : {A : Type 0} → A → List ℕ → Reader A → Option Data → Result A JsonFault
 part_or absent key read None = Ok absent
 part_or absent key read (Some part) = told_as (under key) (read part)
@@ -55,7 +55,7 @@ abbrev pub each : {A : Type 0} → Reader A → ℕ → List Data → Result (Li
 each read place [] = Ok []
 each read place (d ∷ ds) = and_then (told_as (under (decimal place)) (read d)) (λ x. and_then (each read (place + 1) ds) (λ xs. Ok (x ∷ xs)))
 
--- the same for the items of an array
+-- what a reader returns for each item of an array
 abbrev pub list_of : {A : Type 0} → Reader A → Reader (List A)
 list_of read (array ds) = each read 0 (item_list ds)
 list_of read other = wrong_kind

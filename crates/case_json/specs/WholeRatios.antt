@@ -23,6 +23,6 @@ abbrev pub whole_by : (z : ℤ) (b : Bool) → nat_lt (unsigned_abs z) (2 ^ 64) 
 whole_by z true small = Some (record { num = z; den = pos 1; valid = whole_reduced z (ltb-true (unsigned_abs z) (2 ^ 64) small) })
 whole_by z false large = None
 
--- the whole number over 1; none if it is 2^64 or more in size, as no whole number is that `serde_json` reads as an integer
+-- the whole number over 1; none if it is 2^64 or more in size, which no whole number is that `serde_json` reads as an integer
 unfoldable pub whole_ratio : ℤ → Option Ratio
 whole_ratio z = whole_by z (nat_lt (unsigned_abs z) (2 ^ 64)) refl

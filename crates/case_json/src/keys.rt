@@ -56,7 +56,7 @@ pub fn known_keys(alloc: Global, value: &Value, keys: &[&str]) -> Result<(), Jso
     Ok(())
 }
 
-/// Returns the value at a key.
+/// Returns the value at a key of an object, or the fault that the key is missing.
 pub fn field<'v>(alloc: Global, value: &'v Value, key: &str) -> Result<&'v Value, JsonFault>
     ensures found { IfOk result (λ part. get key.now (view value.now) ≡ Some (view part.now)) }
     ensures fault { IfErr result (OrMemory (Misses key.now (view value.now))) }

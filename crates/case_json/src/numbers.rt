@@ -17,7 +17,7 @@ use fraction::Fraction;
 use serde_json::Value;
 use std::alloc::Global;
 
-/// Returns the whole number that is held as an integer, of at most 64 bits.
+/// Returns the whole number of a JSON number that is held as an integer, which has at most 64 bits; `None` for any other.
 pub fn integer(number: &serde_json::Number) -> Option<i128>
     ensures value { result ≡ as_integer (number_view number.now) }
     ensures size { IfSome result (λ z. unsigned_abs z < 2 ^ 64) }

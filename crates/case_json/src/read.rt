@@ -17,8 +17,8 @@ use case_model::{Case, CaseFault, Draft, Refused};
 use serde_json::Value;
 use std::alloc::Global;
 
-/// Reads the case that JSON denotes. Reports the first fault of the value, or else the error of the draft, or `NoMemory`.
-/// `Syntax` is reported exactly if `serde_json` refuses the bytes for another cause than memory.
+/// Reads the case that JSON denotes. It is refused with the first fault of the value, or else with the first error in the draft,
+/// or with `NoMemory`. `Syntax` is reported exactly if `serde_json` refuses the bytes for another cause than memory.
 ///
 /// The value is an object. Its keys are `alpha`, a number, `hypotheses`, an array of texts, and `components`, an array of
 /// objects. There may be `p`, an array, and `stages`, an object. A component has `weights`, an array of numbers, and `edges`,

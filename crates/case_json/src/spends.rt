@@ -1,4 +1,4 @@
-//! The fractions of their levels that hypotheses spend at the stages.
+//! What hypotheses spend of their levels at the stages: fractions, or tables of levels.
 ghost use Rattle.std.specs.Prelude.{codes};
 ghost use Rattle.serde_json.specs.View.{view};
 ghost use Rattle.case_json.specs.Answers.{IsAnswer, at, list_of};

@@ -51,7 +51,7 @@ fn whole_weight(alloc: Global, number: &serde_json::Number) -> Result<Entry, Jso
     Ok(whole_entry(weight))
 }
 
-/// Reads the weight of an edge.
+/// Reads the weight of an edge from a text or a number.
 fn weight(alloc: Global, value: &Value) -> Result<Entry, JsonFault>
     ensures { IsAnswer result (weight_of (view value.now)) }
 {

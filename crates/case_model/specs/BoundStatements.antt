@@ -14,11 +14,11 @@ SetsAreRejectedByTheNextLarger =
     → IsClosedRejected E p level S ↔ (IsLocallyRejected E p level S
     × ((k : ℕ) → k < E.hypotheses → S k ≡ false → IsClosedRejected E p level (adding k S)))
 
--- By each table each set has a bound.
+-- By any table of answers, each set has a bound.
 abbrev pub BoundsExist : Type 0
 BoundsExist = (m : ℕ) (table : ℕ → Bool) (S : ℕ → Bool) → (b : ℕ) × IsBound m (SaysYes m table) S b
 
--- It has one at most, by a table and by the closed test.
+-- A set has at most one bound by a table, and at most one by the closed test.
 abbrev pub BoundsAreUnique : Type 0
 BoundsAreUnique =
     ((m : ℕ) (table : ℕ → Bool) (S : ℕ → Bool) (a b : ℕ) → IsBound m (SaysYes m table) S a → IsBound m (SaysYes m table) S b → a ≡ b)
@@ -32,7 +32,7 @@ ClosedTablesGiveClosedBounds =
     → AnswersFor E.hypotheses (IsClosedRejected E p level) table
     → IsBound E.hypotheses (SaysYes E.hypotheses table) S b ↔ IsBound E.hypotheses (IsClosedRejected E p level) S b
 
--- A bound is at most the size of the set; and each subset with more members than the size less the bound is rejected.
+-- A bound is at most the size of the set, and each subset with more members than the size minus the bound is rejected.
 abbrev pub LargeSubsetsAreRejected : Type 0
 LargeSubsetsAreRejected =
     (m : ℕ) (table : ℕ → Bool) (S : ℕ → Bool) (b : ℕ) → IsBound m (SaysYes m table) S b

@@ -60,7 +60,7 @@ unfoldable pub first_from : {A : Type 0} → (ℕ → A → Option CaseFault) �
 first_from row i [] = None
 first_from row i (x ∷ xs) = row i x or first_from row (i + 1) xs
 
--- the same with the places counted from 0
+-- the first fault that a test of items at their places finds in a list, with the places counted from 0
 abbrev pub first_of : {A : Type 0} → (ℕ → A → Option CaseFault) → List A → Option CaseFault
 first_of row xs = first_from row 0 xs
 
@@ -75,7 +75,7 @@ first_below row (suc n) = first_below row n or row n
 unfoldable pub no_hypothesis : List (List ℕ) → Option CaseFault
 no_hypothesis names = NoHypothesis when length names == 0
 
--- there are more than 64
+-- there are more than 64 hypotheses
 unfoldable pub too_many : List (List ℕ) → Option CaseFault
 too_many names = TooMany (length names) when nat_lt 64 (length names)
 
@@ -101,7 +101,7 @@ names_fault names = no_hypothesis names or too_many names or name_form names or 
 unfoldable pub no_component : List DraftComponent → Option CaseFault
 no_component ks = NoComponent when length ks == 0
 
--- there are more than 8
+-- there are more than 8 components
 unfoldable pub too_many_components : List DraftComponent → Option CaseFault
 too_many_components ks = TooManyComponents (length ks) when nat_lt 8 (length ks)
 
@@ -127,7 +127,7 @@ long_weight c k = first_of (λ i w. PartTooLong (Weight c i) when not (is_short 
 unfoldable pub long_edge : ℕ → DraftComponent → Option CaseFault
 long_edge c k = first_of (λ _ e. PartTooLong (Edge c e.from e.to) when not (list_all is_short e.entry)) k.edges
 
--- a p-value is given, and its denominator is above its limit
+-- whether a p-value is given and its denominator is above its limit
 abbrev pub is_long_p_value : Option Ratio → Bool
 is_long_p_value None = false
 is_long_p_value (Some p) = not (is_short_p_value p)
@@ -166,7 +166,7 @@ part_too_long d =
 unfoldable pub alpha_range : Ratio → Option CaseFault
 alpha_range alpha = AlphaRange when not (is_level_range alpha)
 
--- below 0
+-- whether a fraction is below 0
 abbrev pub is_below_zero : Ratio → Bool
 is_below_zero x = not (at_most number_zero (number_of x))
 
@@ -174,12 +174,12 @@ is_below_zero x = not (at_most number_zero (number_of x))
 unfoldable pub share_range : List DraftComponent → Option CaseFault
 share_range ks = first_of (λ c k. ShareRange c when is_below_zero k.share) ks
 
--- the fault of a number that is written: that it can't be, or else that a value is above a bound
+-- the fault of a written number: that the operation is undefined, or else that a value is above a bound
 abbrev pub bound_fault : {A : Type 0} → Result A WideAt → Number → Number → CaseFault → Option CaseFault
 bound_fault (Err wide) value bound above = Some (Wide wide)
 bound_fault (Ok s) value bound above = above when not (at_most value bound)
 
--- the fault of a sum: that it can't be written, or else that its value is above 1
+-- the fault of a written sum: that it is undefined, or else that its value is above 1
 abbrev pub sum_fault : {A : Type 0} → Result A WideAt → Number → CaseFault → Option CaseFault
 sum_fault r value above = bound_fault r value number_one above
 
@@ -216,7 +216,7 @@ weights_fault m ks = weight_count m ks or first_of weight_range ks or first_of w
 
 -- ---- the edges
 
--- the edge goes from a hypothesis to itself, and isn't 0
+-- whether the edge goes from a hypothesis to itself and isn't 0
 abbrev pub is_self_edge : DraftEdge → Bool
 is_self_edge e = e.from == e.to && not (is_zero_entry e.entry)
 
@@ -279,11 +279,11 @@ mixed stages ps = Mixed when (is_some stages && not (length ps == 0))
 unfoldable pub p_count : ℕ → List (Option Ratio) → Option CaseFault
 p_count m ps = PCount (length ps) when (not (length ps == 0) && not (length ps == m))
 
--- some p-value is given; the first that isn't
+-- the first p-value that isn't given, if some p-value is
 unfoldable pub p_missing : List (Option Ratio) → Option CaseFault
 p_missing ps = if list_any is_some ps then first_of (λ i p. PMissing i when is_none p) ps else None
 
--- a p-value is given, and isn't from 0 to 1
+-- whether a p-value is given and isn't from 0 to 1
 abbrev pub is_outside : Option Ratio → Bool
 is_outside None = false
 is_outside (Some p) = not (is_unit (number_of p))
@@ -302,11 +302,11 @@ p_values_fault m ps = p_count m ps or p_missing ps or p_range ps
 unfoldable pub no_stage : ℕ → Option CaseFault
 no_stage count = NoStage when count == 0
 
--- there are more than 12
+-- there are more than 12 stages
 unfoldable pub too_many_stages : ℕ → Option CaseFault
 too_many_stages count = TooManyStages count when nat_lt 12 count
 
--- a list has a fraction for each stage; a table has a step, and each step a level for each stage
+-- whether a list has a fraction for each stage; or a table has a step, and each of its steps a level for each stage
 abbrev pub has_all_stages : ℕ → Spend → Bool
 has_all_stages count (Shares fs) = length fs == count
 has_all_stages count (Table ss) = not (length ss == 0) && list_all (λ s. length s.levels == count) ss
@@ -325,7 +325,7 @@ too_many_steps i (Table ss) = TooManySteps i (length ss) when nat_lt 32 (length 
 unfoldable pub step_before : List SpendStep → ℕ → Option SpendStep
 step_before ss n = if n == 0 then None else slice_get ss (n - 1)
 
--- the weight from which a step counts is above that of the step before
+-- whether the weight from which a step counts is above that of the step before, if there is one
 abbrev pub is_later : Option Ratio → Ratio → Bool
 is_later None from = true
 is_later (Some before) from = not (at_most (number_of from) (number_of before))
@@ -335,7 +335,7 @@ unfoldable pub step_order : ℕ → Spend → Option CaseFault
 step_order i (Shares fs) = None
 step_order i (Table ss) = first_of (λ n s. StepOrder i n when not (is_level_range s.from && is_later (option_map (λ x. x.from) (step_before ss n)) s.from)) ss
 
--- a level is below that of the same stage in the step before
+-- whether a level is below that of the same stage in the step before, if there is one
 abbrev pub is_lower : Option Ratio → Ratio → Bool
 is_lower None level = false
 is_lower (Some before) level = not (at_most (number_of before) (number_of level))

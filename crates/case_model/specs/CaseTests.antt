@@ -1,4 +1,4 @@
--- What the closed test says of a case: bounds, adjusted values, and the case at another level.
+-- The adjusted values of a case by the closed test, and the case at another level.
 use Rattle.std.specs.Prelude.{ℕ, Bool}
 use Rattle.field_core.specs.declared.ratio.Ratio.{Ratio}
 use Rattle.case_model.specs.declared.inputs.Inputs.{Inputs}

@@ -8,13 +8,13 @@ use Rattle.case_model.specs.EntangledGraph.{EntangledGraph, IsValidEntangled}
 use Rattle.case_model.specs.ClosedTest.{IsLocallyRejected, IsClosedRejected, IsRejected}
 use Rattle.case_model.specs.LegalOrder.{IsListed, IsLegalOrder, IsComplete, IsFirstOrder, IsLastOrder, IsRatioOrder}
 
--- The closed test rejects a set with a member exactly if the local test rejects each set that holds it.
+-- The closed test rejects a set with a member exactly if the local test rejects each set that contains this set.
 abbrev pub SetsAreRejectedByTheirSupersets : Type 0
 SetsAreRejectedByTheirSupersets =
     (E : EntangledGraph) (p : ℕ → Number) (level : Number) (S : ℕ → Bool) (j : ℕ) → IsIn E.hypotheses S j
     → IsClosedRejected E p level S ↔ ((I : ℕ → Bool) → IsSubset E.hypotheses S I → IsLocallyRejected E p level I)
 
--- It rejects a hypothesis exactly if the local test rejects each set that the hypothesis is in.
+-- The closed test rejects a hypothesis exactly if the local test rejects each set that the hypothesis is in.
 abbrev pub HypothesesAreRejectedByTheirSets : Type 0
 HypothesesAreRejectedByTheirSets =
     (E : EntangledGraph) (p : ℕ → Number) (level : Number) (j : ℕ) → j < E.hypotheses
@@ -51,13 +51,13 @@ FirstOrdersAreComplete =
     (E : EntangledGraph) (p : ℕ → Number) (level : Number) (I : ℕ → Bool) (js : List ℕ)
     → IsFirstOrder E p level I js → IsLegalOrder E p level I js × IsComplete E p level I js
 
--- So is that of the priority `last`.
+-- The order of the priority `last` is a complete legal order.
 abbrev pub LastOrdersAreComplete : Type 0
 LastOrdersAreComplete =
     (E : EntangledGraph) (p : ℕ → Number) (level : Number) (I : ℕ → Bool) (js : List ℕ)
     → IsLastOrder E p level I js → IsLegalOrder E p level I js × IsComplete E p level I js
 
--- So is that of the priority `ratio`.
+-- The order of the priority `ratio` is a complete legal order.
 abbrev pub RatioOrdersAreComplete : Type 0
 RatioOrdersAreComplete =
     (E : EntangledGraph) (p : ℕ → Number) (level : Number) (I : ℕ → Bool) (js : List ℕ) → IsValidEntangled E
@@ -68,12 +68,12 @@ abbrev pub FirstOrdersAreUnique : Type 0
 FirstOrdersAreUnique = (E : EntangledGraph) (p : ℕ → Number) (level : Number) (I : ℕ → Bool) (js ks : List ℕ) → IsFirstOrder E p level I js
     → IsFirstOrder E p level I ks → js ≡ ks
 
--- So has the priority `last`.
+-- The priority `last` has one order at most.
 abbrev pub LastOrdersAreUnique : Type 0
 LastOrdersAreUnique = (E : EntangledGraph) (p : ℕ → Number) (level : Number) (I : ℕ → Bool) (js ks : List ℕ) → IsLastOrder E p level I js
     → IsLastOrder E p level I ks → js ≡ ks
 
--- So has the priority `ratio`.
+-- The priority `ratio` has one order at most.
 abbrev pub RatioOrdersAreUnique : Type 0
 RatioOrdersAreUnique = (E : EntangledGraph) (p : ℕ → Number) (level : Number) (I : ℕ → Bool) (js ks : List ℕ) → IsRatioOrder E p level I js
     → IsRatioOrder E p level I ks → js ≡ ks
@@ -83,12 +83,12 @@ abbrev pub FirstOrdersExist : Type 0
 FirstOrdersExist = (E : EntangledGraph) (p : ℕ → Number) (level : Number) (I : ℕ → Bool) → IsValidEntangled E → (js : List ℕ)
     × IsFirstOrder E p level I js
 
--- So has the priority `last`.
+-- From each set on, the priority `last` has an order.
 abbrev pub LastOrdersExist : Type 0
 LastOrdersExist = (E : EntangledGraph) (p : ℕ → Number) (level : Number) (I : ℕ → Bool) → IsValidEntangled E → (js : List ℕ)
     × IsLastOrder E p level I js
 
--- So has the priority `ratio`.
+-- From each set on, the priority `ratio` has an order.
 abbrev pub RatioOrdersExist : Type 0
 RatioOrdersExist = (E : EntangledGraph) (p : ℕ → Number) (level : Number) (I : ℕ → Bool) → IsValidEntangled E → (js : List ℕ)
     × IsRatioOrder E p level I js

@@ -94,13 +94,13 @@ entangled c = record {
   graph = λ k. graph_of (length c.names) (component_at c.components k);
 }
 
--- a fact of single p-values, if there are some
+-- the single p-values satisfy `P`, if there are some
 abbrev pub IfSingle : Inputs → (List Ratio → Type 0) → Type 0
 IfSingle (Single ps) P = P ps
 IfSingle Bare P = Unit {0}
 IfSingle (Staged s) P = Unit {0}
 
--- an arrival is of one of `m` hypotheses, at one of a number of stages, counted from 1. Its p-value is from 0 to 1 with a denominator of at most
+-- whether an arrival is of one of `m` hypotheses, at one of `count` stages, counted from 1, with a p-value from 0 to 1 whose denominator is at most
 -- 10^30
 abbrev pub is_arrival : ℕ → ℕ → Arrival → Bool
 is_arrival m count a = arrives_among m a && is_stage count a.stage && is_p_value a.p
@@ -112,13 +112,13 @@ pub record AreStages (m : ℕ) (s : Stages) : Type 0 where
   pub spends : length s.spend ≡ m
   pub arrivals : list_all (is_arrival m s.count) s.arrivals ≡ true
 
--- a fact of stages, if there are some
+-- the stages satisfy `P`, if there are some
 abbrev pub IfStaged : Inputs → (Stages → Type 0) → Type 0
 IfStaged (Staged s) P = P s
 IfStaged Bare P = Unit {0}
 IfStaged (Single ps) P = Unit {0}
 
--- a fact of single p-values; it doesn't hold if there are none, or stages
+-- there are single p-values, and they satisfy `P`
 abbrev pub ForSingle : Inputs → (List Ratio → Type 0) → Type 0
 ForSingle (Single ps) P = P ps
 ForSingle Bare P = ⊥
@@ -128,14 +128,14 @@ ForSingle (Staged s) P = ⊥
 abbrev pub IsRejectedIn : Content → ℕ → Type 0
 IsRejectedIn c j = ForSingle c.inputs (λ ps. IsRejected (entangled c) (number_at ps) (number_of c.alpha) j)
 
--- each entry of each table has a coefficient for each power of epsilon from 0 to 4
+-- whether each entry of each table has a coefficient for each power of epsilon from 0 to 4
 unfoldable pub has_coefficients : List Component → Bool
 has_coefficients ks = list_all (λ k. list_all is_whole_entry k.edges) ks
 
--- there is one component, and its share is 1
+-- whether there is one component, and its share is 1
 unfoldable pub is_alone : List Component → Bool
 is_alone ks = length ks == 1 && list_all (λ k. is_one (terms k.share)) ks
 
--- no edge has a coefficient other than 0 above power 0
+-- whether no edge has a coefficient other than 0 above power 0
 unfoldable pub is_plain : Content → Bool
 is_plain c = list_all (λ k. list_all is_plain_entry k.edges) c.components

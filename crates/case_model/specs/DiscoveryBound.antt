@@ -2,13 +2,13 @@
 use Rattle.std.specs.Prelude.{◌≡◌, ◌≤◌, ◌+◌, ◌⊎◌, ℕ, Bool}
 use Rattle.field_core.specs.Sets.{IsIn, IsSubset, size_of}
 
--- (Of each set of `m` hypotheses it is said whether its intersection is rejected.)
+-- (`Rejected` are the sets of `m` hypotheses whose intersections are rejected.)
 module _ (m : ℕ) (Rejected : (ℕ → Bool) → Type 0) where
-  -- a set isn't rejected; the empty set counts as not rejected
+  -- the set isn't rejected; the empty set counts as not rejected
   abbrev pub IsUnrejected : (ℕ → Bool) → Type 0
   IsUnrejected K = ((k : ℕ) → ¬ IsIn m K k) ⊎ ¬ Rejected K
 
-  -- `b` is the size of `S` less the greatest size of a subset that isn't rejected
+  -- `b` is the size of `S` minus the greatest size of a subset that isn't rejected
   pub record IsBound (S : ℕ → Bool) (b : ℕ) : Type 0 where
     pub greatest : ℕ → Bool
     pub inside : IsSubset m greatest S

@@ -28,15 +28,15 @@ entry_value e = sum_below number_field 5 (λ k. number_at e k *ε power_of_epsil
 abbrev pub no_edge : List Ratio
 no_edge = zero_ratio ∷ zero_ratio ∷ zero_ratio ∷ zero_ratio ∷ zero_ratio ∷ []
 
--- it has a coefficient for each power from 0 to 4
+-- whether an entry has a coefficient for each power from 0 to 4
 abbrev pub is_whole_entry : List Ratio → Bool
 is_whole_entry e = length e == 5
 
--- each coefficient is 0
+-- whether each coefficient is 0
 unfoldable pub is_zero_entry : List Ratio → Bool
 is_zero_entry e = list_all (λ x. is_zero (terms x)) e
 
--- each coefficient above power 0 is 0
+-- whether each coefficient above power 0 is 0
 unfoldable pub is_plain_entry : List Ratio → Bool
 is_plain_entry e = list_all (λ x. is_zero (terms x)) (drop 1 e)
 

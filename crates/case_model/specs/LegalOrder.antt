@@ -14,7 +14,7 @@ use Rattle.case_model.specs.ClosedTest.{IsLegal}
 abbrev pub IsListed : List ℕ → ℕ → Type 0
 IsListed js j = set_of js j ≡ true
 
--- (A rule says which hypotheses may be rejected next while the set `I` remains.)
+-- (A rule decides which hypotheses may be rejected next while the set `I` remains.)
 module _ (Rule : (ℕ → Bool) → ℕ → Type 0) where
   -- A list of rejections by the rule, from the set `I` on: the rule allows each one in the set that remains after the earlier ones.
   abbrev pub IsOrderBy : (ℕ → Bool) → List ℕ → Type 0

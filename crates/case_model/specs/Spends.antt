@@ -13,7 +13,7 @@ use Rattle.case_model.specs.declared.spend.Spend.{Spend}
 use Rattle.case_model.specs.declared.spend.Spend.TheVariants.{Shares, Table}
 use Rattle.case_model.specs.declared.spend_step.SpendStep.{SpendStep}
 
--- the number of a stage, counted from 1; 0 past the last one, and at 0, if there is no stage
+-- the fraction of a stage, counted from 1, as a number; it is 0 past the last stage, and for the stage 0, which is none
 abbrev pub stage_number : List Ratio → ℕ → Number
 stage_number xs zero = number_zero
 stage_number xs (suc t) = number_at xs t
@@ -27,12 +27,12 @@ last_step (s ∷ ss) u = option_or (last_step ss u) (then_some (at_most (number_
 abbrev pub table_level : List SpendStep → ℕ → Number → Number
 table_level ss t u = option_map_or (λ s. stage_number s.levels t) (last_step ss u) number_zero
 
--- The level of a stage at a weight `u`, by a spend: of a list of fractions, the fraction of `u * alpha`.
+-- The level of a stage at a weight `u`, by a spend. By a list it is the fraction of the stage times `u * alpha`, by a table that of the table.
 unfoldable pub spend_level : Spend → Number → ℕ → Number → Number
 spend_level (Shares fs) alpha t u = (stage_number fs t *ε u) *ε alpha
 spend_level (Table ss) alpha t u = table_level ss t u
 
--- from a level on, that of a stage doesn't fall from step to step
+-- from the level `low` on, the level of a stage doesn't fall from step to step
 abbrev pub IsRising : ℕ → Number → List SpendStep → Type 0
 IsRising t low [] = Unit {0}
 IsRising t low (s ∷ ss) = (low ≤ε stage_number s.levels t) × IsRising t (stage_number s.levels t) ss

@@ -11,7 +11,7 @@ use Rattle.case_model.specs.Draft.{is_short_level}
 use Rattle.case_model.specs.Content.{Content, entangled}
 use Rattle.case_model.specs.StagedTest.{IsStagedLegal, IsStagedRejected}
 
--- what the hypotheses spend; nothing if there are no stages
+-- what the hypotheses spend; the empty list if there are no stages
 abbrev pub spends_in : Inputs → List Spend
 spends_in (Staged s) = s.spend
 spends_in Bare = []
@@ -25,7 +25,7 @@ spend_at spends k = get_or spends k (Shares [])
 abbrev pub spend_in : Content → ℕ → Spend
 spend_in c = spend_at (spends_in c.inputs)
 
--- each fraction that is spent has parts of at most 10,000
+-- whether each fraction that is spent has parts of at most 10,000
 abbrev pub has_short_fractions : Spend → Bool
 has_short_fractions (Shares fs) = list_all is_short_level fs
 has_short_fractions (Table ss) = true

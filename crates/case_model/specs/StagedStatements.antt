@@ -62,7 +62,7 @@ abbrev pub SettlingsExist : Type 0
 SettlingsExist = (spend : ℕ → Spend) (alpha : Number) (values : List Arrival) (E : EntangledGraph) (I : ℕ → Bool) → IsValidEntangled E
     → (js : List ℕ) × IsSettling spend alpha values E I js
 
--- It has one at most.
+-- From each set on there is at most one settling.
 abbrev pub SettlingsAreUnique : Type 0
 SettlingsAreUnique =
     (spend : ℕ → Spend) (alpha : Number) (values : List Arrival) (E : EntangledGraph) (I : ℕ → Bool) (js ks : List ℕ)

@@ -11,7 +11,7 @@ use Rattle.case_model.specs.ClosedTest.{IsLegalBy, IsLocallyRejectedBy, IsReject
 use Rattle.case_model.specs.LegalOrder.{IsOrderBy, IsCompleteBy, IsRunBy, IsFirst}
 use Rattle.case_model.specs.Spends.{spend_level}
 
--- a p-value meets a level at a weight: the weight and the level are above 0, and it is at most the level
+-- a p-value meets a level at a weight: the weight and the level are above 0, and the p-value is at most the level
 pub record MeetsLevel (level weight p : Number) : Type 0 where
   pub positive : IsPositive weight
   pub spent : IsPositive level
@@ -22,13 +22,13 @@ abbrev pub Meets : Spend → Number → ℕ → Number → Number → Type 0
 Meets spend alpha t weight p = MeetsLevel (spend_level spend alpha t weight) weight p
 
 module _ (spend : ℕ → Spend) (alpha : Number) (values : List Arrival) where
-  -- at a weight, `k` meets its level at the stage of a value that has arrived
+  -- `a` is a value of `k` that has arrived, and at the weight it meets the level of its stage
   pub record MeetsAt (k : ℕ) (weight : Number) (a : Arrival) : Type 0 where
     pub arrived : Contains values a
     pub hypothesis : a.hypothesis ≡ k
     pub meets : Meets (spend k) alpha a.stage weight (number_of a.p)
 
-  -- `k` passes at a weight if it meets its level at some stage that has arrived
+  -- `k` passes at a weight: some value of `k` that has arrived meets the level of its stage
   pub record AtStages (k : ℕ) (weight : Number) : Type 0 where
     pub arrival : Arrival
     pub at : MeetsAt k weight arrival

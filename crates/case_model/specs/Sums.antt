@@ -38,7 +38,7 @@ ratio_at xs i = get_or xs i zero_ratio
 abbrev pub number_at : List Ratio → ℕ → Number
 number_at xs i = number_of (ratio_at xs i)
 
--- the sum of the first `n`, written one after another by ascending place
+-- the sum of the first `n` fractions, written one after another by ascending place
 unfoldable pub written_sum : ℕ → (ℕ → Ratio) → Option Terms
 written_sum zero f = Some zero_terms
 written_sum (suc n) f = written_sum n f >>= λ s. written_add s (terms (f n))

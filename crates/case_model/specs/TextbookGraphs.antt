@@ -6,7 +6,7 @@ use Rattle.field_core.specs.Fractions.{fraction, one_over}
 use Rattle.field_core.specs.Graph.{Graph}
 use Rattle.case_model.specs.EntangledGraph.{EntangledGraph}
 
--- `G` is the only component, of share 1; only what it says of positions below the number of hypotheses counts
+-- `G` is the only component of `E`, with share 1; only its weights and edges at positions below the number of hypotheses count
 pub record IsAlone (G : Graph Number) (E : EntangledGraph) : Type 0 where
   pub one : E.components ≡ 1
   pub share : E.share 0 ≡ number_one

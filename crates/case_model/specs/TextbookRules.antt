@@ -38,7 +38,7 @@ module _ (p : ℕ → Number) where
   module _ (level : Number) where
     -- ---- fallback
 
-    -- the fraction of the level that a hypothesis is tested at: its own weight, and what the one before it had, if that was rejected
+    -- the fraction of the level that a hypothesis is tested at: its own weight, plus the fraction of the one before it, if that was rejected
     unfoldable pub fallback_weight : (ℕ → Number) → ℕ → Number
     fallback_weight w zero = w zero
     fallback_weight w (suc i) = if does_pass (p i) (fallback_weight w i) level then w (suc i) +ε fallback_weight w i else w (suc i)
@@ -61,13 +61,13 @@ module _ (p : ℕ → Number) where
     abbrev pub IsSmallAt : ℕ → ℕ → Type 0
     IsSmallAt n i = p (get_or (by_p_value n) i 0) ≤ε (one_over (n - i) *ε level)
 
-    -- `r` is the greatest number such that the first `r` by ascending p-value are small: all before it are, and the next one, if there is one, isn't.
+    -- `r` is the greatest number such that the first `r` by ascending p-value are small: these are, and the next one, if there is one, isn't.
     pub record IsHolmNumber (n r : ℕ) : Type 0 where
       pub within : r ≤ n
       pub each : (i : ℕ) → i < r → IsSmallAt n i
       pub next : r < n → ¬ IsSmallAt n r
 
-    -- Holm's rule rejects `j`: it is among the first by ascending p-value, in the number that Holm's number gives.
+    -- Holm's rule rejects `j`: it is among the first `r` by ascending p-value, where `r` is Holm's number.
     pub record IsHolmRejected (n j : ℕ) : Type 0 where
       pub number : ℕ
       pub is_number : IsHolmNumber n number

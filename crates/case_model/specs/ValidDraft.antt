@@ -1,4 +1,4 @@
--- Valid drafts, by what holds of their names, numbers, edges and stages; and the sums of a draft that are written.
+-- Valid drafts, by what holds of their names, numbers, edges and stages; and the written sums of a draft.
 use Rattle.std.specs.Prelude.{◌≡◌, ◌≢◌, ◌⊎◌, ◌+◌, ◌<◌, ◌≤◌, ℕ, List, Option, Some, None, length, map, slice_get, true}
 use Rattle.field_core.specs.Arithmetic.{number_zero, number_one, ◌*ε◌}
 use Rattle.field_core.specs.Number.{Number}
@@ -21,15 +21,15 @@ use Rattle.case_model.specs.Draft.{is_name, is_short, is_short_level, is_short_p
 use Rattle.case_model.specs.Content.{table_of}
 use Rattle.case_model.specs.CaseFaults.{written_row}
 
--- each item of a list is so
+-- each item of a list satisfies `P`
 abbrev pub Each : {A : Type 0} → List A → (A → Type 0) → Type 0
 Each xs P = (i : ℕ) (x : _) → slice_get xs i ≡ Some x → P x
 
--- each two items at different places, the earlier one first, are so
+-- each two items at different places, the earlier one first, satisfy `P`
 abbrev pub EachTwo : {A : Type 0} → List A → (A → A → Type 0) → Type 0
 EachTwo xs P = (i j : ℕ) (x y : _) → i < j → slice_get xs i ≡ Some x → slice_get xs j ≡ Some y → P x y
 
--- each two items next to each other are so
+-- each two items next to each other satisfy `P`
 abbrev pub EachNext : {A : Type 0} → List A → (A → A → Type 0) → Type 0
 EachNext xs P = (i : ℕ) (x y : _) → slice_get xs i ≡ Some x → slice_get xs (i + 1) ≡ Some y → P x y
 
@@ -56,7 +56,7 @@ pub record AreValidNames (names : List (List ℕ)) : Type 0 where
   pub form : Each names (λ name. is_name name ≡ true)
   pub distinct : EachTwo names (λ a b. ¬ (a ≡ b))
 
--- a component of `m` hypotheses
+-- a valid component of `m` hypotheses
 pub record IsValidComponent (m : ℕ) (k : DraftComponent) : Type 0 where
   pub short_share : is_short k.share ≡ true
   pub share : IsNonneg k.share
@@ -99,7 +99,7 @@ pub record IsValidTable (count : ℕ) (alpha : Ratio) (ss : List SpendStep) : Ty
       → number_of x ≤ε number_of y)
   pub bound : Each ss (λ s. SumsTo s.levels (number_of s.from *ε number_of alpha))
 
--- what a hypothesis spends at this number of stages
+-- a hypothesis's spend is valid for `count` stages at the level `alpha`
 abbrev pub IsValidSpend : ℕ → Ratio → Spend → Type 0
 IsValidSpend count alpha (Shares fs) = AreValidShares count fs
 IsValidSpend count alpha (Table ss) = IsValidTable count alpha ss

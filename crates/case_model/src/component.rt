@@ -55,7 +55,7 @@ impl Component {
         self.weights.as_slice()[i]
     }
 
-    /// Returns the edge from a hypothesis to a hypothesis of a component of a number of hypotheses.
+    /// Returns the edge from the hypothesis `i` to the hypothesis `j`, in a component of `count` hypotheses.
     #[tactic(auto, unfolding(crate::specs::Entries::entry_at), using(std::proofs::lemmas::List::get_or_default))]
     pub(crate) fn edge(&self, count: usize, i: usize, j: usize) -> &Entry
         requires few { count ≤ 64 }
@@ -75,7 +75,7 @@ impl Component {
     }
 }
 
-/// Returns the table of the edges between this number of hypotheses, row by row. Of edges with the same ends it has the first.
+/// Returns the table of the edges between `count` hypotheses, row by row. Of several edges with the same ends it has the first.
 #[tactic(auto, using(crate::proofs::Holding::all_at))]
 fn table(alloc: Global, count: usize, edges: &[DraftEdge]) -> Result<List<Entry>, NoMemory>
     requires few { count ≤ 64 }

@@ -38,7 +38,7 @@ pub fn components_fault(components: &[DraftComponent]) -> Option<CaseFault>
     (count > 8).then_some(CaseFault::TooManyComponents(count))
 }
 
-/// Returns the first share with a part above 10^18.
+/// Returns the fault of the first share with a part above 10^18.
 #[tactic(auto, unfolding(crate::specs::CaseFaults::long_share, crate::specs::CaseFaults::first_from), using(crate::proofs::FirstFaults::walks))]
 fn long_share(components: &[DraftComponent]) -> Option<CaseFault>
     ensures { result ≡ long_share components.now }
@@ -51,7 +51,7 @@ fn long_share(components: &[DraftComponent]) -> Option<CaseFault>
     None
 }
 
-/// Returns the first share, or else the first weight, or else the first edge, with a part above 10^18.
+/// Returns the fault of the first share, or else the first weight, or else the first edge, with a part above 10^18.
 pub fn long_part(components: &[DraftComponent]) -> Option<CaseFault>
     ensures { result ≡ (long_share components.now or first_of long_weight components.now or first_of long_edge components.now) }
 {
@@ -60,7 +60,7 @@ pub fn long_part(components: &[DraftComponent]) -> Option<CaseFault>
         .or_else(|| first_fault(components, DraftComponent::long_edge))
 }
 
-/// Returns the first share below 0.
+/// Returns the fault of the first share below 0.
 #[tactic(auto, unfolding(crate::specs::CaseFaults::share_range, crate::specs::CaseFaults::first_from), using(crate::proofs::FirstFaults::walks))]
 fn share_range(components: &[DraftComponent]) -> Option<CaseFault>
     ensures { result ≡ share_range components.now }
@@ -96,7 +96,7 @@ pub fn shares_fault(components: &[DraftComponent]) -> Option<CaseFault>
     share_range(components).or_else(|| share_sum(components))
 }
 
-/// Returns the first component that hasn't this number of weights.
+/// Returns the fault of the first component that hasn't `count` weights.
 #[tactic(auto, unfolding(crate::specs::CaseFaults::weight_count, crate::specs::CaseFaults::first_from), using(crate::proofs::FirstFaults::walks))]
 fn weight_count(count: usize, components: &[DraftComponent]) -> Option<CaseFault>
     ensures { result ≡ weight_count count components.now }
@@ -119,14 +119,14 @@ pub fn weights_fault(count: usize, components: &[DraftComponent]) -> Option<Case
         .or_else(|| first_fault(components, DraftComponent::weight_sum))
 }
 
-/// Returns the first edge of a component from a hypothesis to itself that isn't 0.
+/// Returns the fault of the first edge of a component from a hypothesis to itself that isn't 0.
 fn self_edges(components: &[DraftComponent]) -> Option<CaseFault>
     ensures { result ≡ first_of self_edge components.now }
 {
     first_fault(components, DraftComponent::self_edge)
 }
 
-/// Returns the first edge of the component at a place with the ends of an earlier one.
+/// Returns the fault of the first edge of the component at a place with the ends of an earlier one.
 fn repeated_edge(count: usize, components: &[DraftComponent], c: usize) -> Option<CaseFault>
     requires few { count ≤ 64 }
     requires ends { list_all (λ k. list_all (goes_between count) k.edges) components.now ≡ true }
@@ -136,7 +136,7 @@ fn repeated_edge(count: usize, components: &[DraftComponent], c: usize) -> Optio
     components[c].repeated_edge(c, count)
 }
 
-/// Returns the first edge of a component with the ends of an earlier one.
+/// Returns the fault of the first edge of a component with the ends of an earlier one.
 #[tactic(auto, unfolding(crate::specs::CaseFaults::first_from), using(crate::proofs::FirstFaults::walks))]
 fn repeated_edges(count: usize, components: &[DraftComponent]) -> Option<CaseFault>
     requires few { count ≤ 64 }

@@ -118,7 +118,7 @@ impl Draft {
         edges_fault(self.names.len(), self.components.as_slice())
     }
 
-    /// Returns the first number with a part above its limit.
+    /// Returns the fault of the first number with a part above its limit.
     #[tactic(auto, unfolding(crate::specs::CaseFaults::part_too_long, crate::specs::CaseFaults::long_alpha))]
     fn part_too_long(&self) -> Option<CaseFault>
         ensures { result ≡ part_too_long self.now }
@@ -175,7 +175,7 @@ impl Parts {
     }
 }
 
-/// Returns the first number of stages with a part above its limit.
+/// Returns the fault of the first number of stages with a part above its limit.
 fn long_stage_part(stages: &Option<DraftStages>) -> Option<CaseFault>
     ensures { result ≡ option_and_then long_stage_part stages.now }
 {

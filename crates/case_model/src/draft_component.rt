@@ -19,14 +19,14 @@ pub struct DraftComponent {
 }
 
 impl DraftComponent {
-    /// Whether each edge goes from one of a number of hypotheses to one of them.
+    /// Whether each edge goes from one of `count` hypotheses to one of them.
     pub(crate) fn has_known_ends(&self, count: usize) -> bool
         ensures { result ≡ list_all (goes_between count) self.now.edges }
     {
         self.edges.iter().all(|edge| edge.goes_between(count))
     }
 
-    /// Returns the first weight with a part above 10^18.
+    /// Returns the fault of the first weight with a part above 10^18.
     #[tactic(auto, unfolding(crate::specs::CaseFaults::long_weight, crate::specs::CaseFaults::first_from), using(crate::proofs::FirstFaults::walks))]
     pub(crate) fn long_weight(&self, c: usize) -> Option<CaseFault>
         ensures { result ≡ long_weight c self.now }
@@ -40,7 +40,7 @@ impl DraftComponent {
         None
     }
 
-    /// Returns the first edge with a part above 10^18.
+    /// Returns the fault of the first edge with a part above 10^18.
     #[tactic(auto, unfolding(crate::specs::CaseFaults::long_edge, crate::specs::CaseFaults::first_from), using(crate::proofs::FirstFaults::walks))]
     pub(crate) fn long_edge(&self, c: usize) -> Option<CaseFault>
         ensures { result ≡ long_edge c self.now }
@@ -56,7 +56,7 @@ impl DraftComponent {
         None
     }
 
-    /// Returns the first weight below 0.
+    /// Returns the fault of the first weight below 0.
     #[tactic(auto, unfolding(crate::specs::CaseFaults::weight_range, crate::specs::CaseFaults::first_from), using(crate::proofs::FirstFaults::walks))]
     pub(crate) fn weight_range(&self, c: usize) -> Option<CaseFault>
         ensures { result ≡ weight_range c self.now }
@@ -80,7 +80,7 @@ impl DraftComponent {
         total_fault(weights.len(), |i| weights[i], c, Place::WeightSum, above)
     }
 
-    /// Returns the first edge from a hypothesis to itself that isn't 0.
+    /// Returns the fault of the first edge from a hypothesis to itself that isn't 0.
     #[tactic(auto, unfolding(crate::specs::CaseFaults::self_edge, crate::specs::CaseFaults::first_from), using(crate::proofs::FirstFaults::walks))]
     pub(crate) fn self_edge(&self, c: usize) -> Option<CaseFault>
         ensures { result ≡ self_edge c self.now }
@@ -95,7 +95,7 @@ impl DraftComponent {
         None
     }
 
-    /// Returns the first edge with the ends of an earlier one.
+    /// Returns the fault of the first edge with the ends of an earlier one.
     #[tactic(auto, unfolding(crate::specs::CaseFaults::repeated_edge))]
     pub(crate) fn repeated_edge(&self, c: usize, count: usize) -> Option<CaseFault>
         requires few { count ≤ 64 }
@@ -115,7 +115,7 @@ impl DraftComponent {
         None
     }
 
-    /// Returns the first edge that isn't from 0 to 1.
+    /// Returns the fault of the first edge that isn't from 0 to 1.
     #[tactic(auto, unfolding(crate::specs::CaseFaults::edge_range, crate::specs::CaseFaults::first_from), using(crate::proofs::FirstFaults::walks))]
     pub(crate) fn edge_range(&self, c: usize) -> Option<CaseFault>
         ensures { result ≡ edge_range c self.now }

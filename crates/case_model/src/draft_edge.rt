@@ -14,14 +14,14 @@ pub struct DraftEdge {
 }
 
 impl DraftEdge {
-    /// Whether it goes from one of a number of hypotheses to one of them.
+    /// Whether the edge goes from one of `count` hypotheses to one of them.
     pub(crate) fn goes_between(&self, count: usize) -> bool
         ensures { result ≡ goes_between count self.now }
     {
         self.from < count && self.to < count
     }
 
-    /// Returns its place in the table of the edges between this number of hypotheses, row by row.
+    /// Returns the place of the edge in the table of the edges between `count` hypotheses, row by row.
     pub(crate) fn place(&self, count: usize) -> usize
         requires few { count ≤ 64 }
         requires ends { goes_between count self.now ≡ true }
@@ -31,7 +31,7 @@ impl DraftEdge {
         self.from * count + self.to
     }
 
-    /// Whether it goes from a hypothesis to itself, and isn't 0.
+    /// Whether the edge goes from a hypothesis to itself and isn't 0.
     pub(crate) fn is_self_edge(&self) -> bool
         ensures { result ≡ is_self_edge self.now }
     {

@@ -55,7 +55,7 @@ impl DraftStages {
             .all(|arrival| arrival.hypothesis < count)
     }
 
-    /// Returns the first number with a part above its limit: a fraction, or else a number of a step, or else a p-value.
+    /// Returns the fault of the first number with a part above its limit. Fractions come first, then numbers of steps, then p-values.
     #[tactic(auto, unfolding(crate::specs::CaseFaults::long_stage_part))]
     pub(crate) fn long_part(&self) -> Option<CaseFault>
         ensures { result ≡ long_stage_part self.now }
@@ -85,7 +85,7 @@ impl DraftStages {
     }
 }
 
-/// Returns the first p-value that arrived with a denominator above 10^30.
+/// Returns the fault of the first p-value that arrived with a denominator above 10^30.
 #[tactic(auto, unfolding(crate::specs::CaseFaults::long_arrival, crate::specs::CaseFaults::first_from), using(crate::proofs::FirstFaults::walks))]
 fn long_arrival(arrivals: &[Arrival]) -> Option<CaseFault>
     ensures { result ≡ long_arrival arrivals.now }
@@ -105,7 +105,8 @@ fn is_miscounted(size: usize, count: u64, spend: &Spend, i: usize) -> bool
     i >= size || !spend.has_all_stages(count)
 }
 
-/// Returns the first of a number of hypotheses that doesn't spend at each of `count` stages, or the first place past them.
+/// Returns the fault of the first of `size` hypotheses that doesn't spend at each of `count` stages, or else of the first spend
+/// past them.
 #[tactic(auto, unfolding(crate::specs::CaseFaults::spend_count, crate::specs::CaseFaults::first_from), using(crate::proofs::FirstFaults::walks))]
 fn spend_count(size: usize, count: u64, spends: &[Spend]) -> Option<CaseFault>
     ensures { result ≡ spend_count size count spends.now }
@@ -151,7 +152,7 @@ fn spend_sum(alpha: &Fraction, spends: &[Spend]) -> Option<CaseFault>
     None
 }
 
-/// Returns the first arrival at what isn't one of a number of stages.
+/// Returns the fault of the first arrival whose stage isn't one of `count` stages.
 #[tactic(auto, unfolding(crate::specs::CaseFaults::arrival_stage, crate::specs::CaseFaults::first_from), using(crate::proofs::FirstFaults::walks))]
 fn arrival_stage(count: u64, arrivals: &[Arrival]) -> Option<CaseFault>
     ensures { result ≡ arrival_stage count arrivals.now }
@@ -165,14 +166,14 @@ fn arrival_stage(count: u64, arrivals: &[Arrival]) -> Option<CaseFault>
     None
 }
 
-/// Whether one of the arrivals is of a hypothesis at a stage.
+/// Whether one of the arrivals is of this hypothesis at this stage.
 fn has(arrivals: &[Arrival], hypothesis: usize, stage: usize) -> bool
     ensures { result ≡ list_any (is_of hypothesis stage) arrivals.now }
 {
     arrivals.iter().any(|arrival| arrival.hypothesis == hypothesis && arrival.stage == stage)
 }
 
-/// Returns the first arrival with the hypothesis and the stage of an earlier one.
+/// Returns the fault of the first arrival with the hypothesis and the stage of an earlier one.
 #[tactic(auto, unfolding(crate::specs::CaseFaults::arrival_repeated, crate::specs::CaseFaults::first_from), using(crate::proofs::FirstFaults::walks))]
 fn arrival_repeated(arrivals: &[Arrival]) -> Option<CaseFault>
     ensures { result ≡ arrival_repeated arrivals.now }
@@ -186,7 +187,7 @@ fn arrival_repeated(arrivals: &[Arrival]) -> Option<CaseFault>
     None
 }
 
-/// Returns the first p-value that arrived and isn't from 0 to 1.
+/// Returns the fault of the first p-value that arrived and isn't from 0 to 1.
 #[tactic(auto, unfolding(crate::specs::CaseFaults::arrival_range, crate::specs::CaseFaults::first_from), using(crate::proofs::FirstFaults::walks))]
 fn arrival_range(arrivals: &[Arrival]) -> Option<CaseFault>
     ensures { result ≡ arrival_range arrivals.now }

@@ -93,7 +93,7 @@ impl Entry {
         are_zero(&coefficients[1..])
     }
 
-    /// Returns how the value compares with a fraction, in the order of epsilon.
+    /// Returns the order of the value and a fraction; epsilon is above 0 and below each fraction above 0.
     fn compare(&self, other: &Fraction) -> Ordering
         ensures { result ≡ number_compare (entry_value self.now) (number_of other.now) }
     {
@@ -127,7 +127,7 @@ impl Entry {
     }
 }
 
-/// Whether each is 0.
+/// Whether each fraction is 0.
 fn are_zero(fractions: &[Fraction]) -> bool
     ensures { result ≡ list_all (λ x. is_zero (terms x)) fractions.now }
 {
@@ -142,7 +142,7 @@ fn sign(x: &Fraction) -> Ordering
     x.sign()
 }
 
-/// Returns the sign of the first that isn't 0.
+/// Returns the sign of the first fraction that isn't 0, and that of 0 if all are 0.
 #[tactic(auto, unfolding(crate::specs::Entries::first_sign))]
 fn first_sign(fractions: &[Fraction]) -> Ordering
     ensures { result ≡ first_sign fractions.now }

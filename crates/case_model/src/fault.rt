@@ -1,7 +1,8 @@
 //! Why drafts are refused.
 use field_core::{List, NoMemory, Text, WideAt};
 
-/// Where a number is in a draft. Components, hypotheses, stages, steps and arrivals are named by their places, from 0.
+/// Where a number is in a draft. Components, hypotheses, stages, steps and arrivals are named by their places, from 0, in the
+/// order in which a variant's comment has them.
 #[derive(Clone, Copy, PartialEq, Eq)]
 pub enum PartPlace {
     Alpha,
@@ -23,7 +24,8 @@ pub enum PartPlace {
 
 /// Why a draft is refused. The rows are tested in this order, each for all components, hypotheses and places of a list, in
 /// ascending order, before the next. Numbers with long parts are tested in the order of `PartPlace`, and a table step by step.
-/// Components, hypotheses, stages, steps and arrivals are named by their places, from 0.
+/// Components, hypotheses, stages, steps and arrivals are named by their places, from 0. A variant with several places names the
+/// component first, then the hypothesis (of an edge its start and then its end), then the stage or the step.
 #[derive(Clone, Copy, PartialEq, Eq)]
 pub enum CaseFault {
     /// There is no name.

@@ -1,4 +1,4 @@
-//! What is given of p-values.
+//! The p-values of a case: none, single ones, or those of stages.
 use crate::p_values::{given, has_some};
 use crate::{Arrival, DraftStages, Spend};
 use field_core::{List, NoMemory};
@@ -66,7 +66,7 @@ impl Inputs {
     ghost use Rattle.std.specs.Prelude.{◌≡◌, IfOk};
     ghost use Rattle.case_model.specs.Content.{inputs_given, inputs_of};
 
-    /// Returns the stages, if there are some, and else the p-values that are given.
+    /// Returns the stages of a draft, if it has some, and else the p-values that are given.
     pub(crate) fn of(
         alloc: Global,
         stages: Option<DraftStages>,

@@ -68,7 +68,7 @@ pub fn intersection_weights_are_monotone()
     ensures { IntersectionWeightsAreMonotone }
 {}
 
-/// The closed test rejects a set, or a hypothesis, exactly if the local test rejects all sets that hold it.
+/// The closed test rejects a set with a member, or a hypothesis, exactly if the local test rejects all sets that contain it.
 pub fn closed_rejections_are_of_all_supersets()
     ensures sets { SetsAreRejectedByTheirSupersets }
     ensures hypotheses { HypothesesAreRejectedByTheirSets }

@@ -1,25 +1,28 @@
 //! Valid cases, and what the closed test decides of them.
 //!
-//! Proved:
-//! - The definitions of the entangled graph, the intersection weight, the local test and the closed test at a level, and their
-//!   laws (`src/laws.rt`). Intersection weights exist, are unique, sum to at most 1 and don't fall when the set shrinks. A
-//!   complete legal order has exactly what the closed test rejects, and all complete orders agree. Consonance is proved once
-//!   for any local test that survives a greater weight.
-//! - A valid draft by what holds of it, apart from the order of the tests, and the law `faultless_drafts_are_valid`. By it a
+//! Definitions, with laws that are proved:
+//! - The entangled graph, the intersection weight, the local test and the closed test at a level (`src/laws.rt`). Intersection
+//!   weights exist, are unique, sum to at most 1 and don't fall when the set shrinks. A complete legal order contains exactly
+//!   what the closed test rejects, and all complete orders agree. Consonance is proved once for any local test that survives a
+//!   greater weight.
+//! - A valid draft, defined by what holds of it, apart from the order of the tests. By the law `faultless_drafts_are_valid` a
 //!   draft has no fault exactly if it is valid and its written sums are defined.
-//! - More definitions with laws (`src/laws/`): least rejecting levels, bounds on true discoveries over any table, and the
-//!   staged test with its spends. The textbook rules (Holm, fixed sequence, fallback) and their graphs; the laws on them are in
-//!   textbook.
-//! - `Draft::finish`: `case` (an accepted draft is kept as it is, with its edges in tables). `faultless` and `fault`: it is
-//!   accepted only without a fault, and refused with the first fault of `case_fault`, or when out of memory. `names`: a refusal
-//!   gives the names back. `Draft::has_known_ends`, `has_known_arrivals`.
-//! - `Case::size` and `components` (`count`, `range`), `names`, `name`, `alpha`, `share`, `weight`, `edge`, `edges`, `inputs`,
-//!   `is_plain`, `position`. `least_weight`, `passes_from` and `passes`: the local test of one hypothesis. `Spend::copy`, and
-//!   `Spend::meets`: whether a p-value meets the level of a stage at a weight. `NameIndex::build` and `position`. `SetTable`:
-//!   an answer for each set of at most 16 hypotheses. `is_level`, `is_p_value`.
+//! - Least rejecting levels, bounds on true discoveries over any table, and the staged test with its spends (`src/laws/`).
+//! - The textbook rules (Holm, fixed sequence, fallback) and their graphs; the laws on them are in textbook.
 //!
-//! Tables of drafts and of positions in an index, with values by hand, are in tests_cases. The drafts have each fault and pairs
-//! of faults, or make cases, with several components and with stages.
+//! Proved of the code:
+//! - `Draft::finish`: an accepted draft is kept as it is, with its edges in tables (`case`). A draft is accepted only if it has
+//!   no fault, and refused with the first fault of `case_fault`, or when out of memory (`faultless`, `fault`). A refusal gives
+//!   the names back (`names`).
+//! - `Draft::has_known_ends`, `has_known_arrivals`.
+//! - `Case::size` and `components` (`count`, `range`), `names`, `name`, `alpha`, `share`, `weight`, `edge`, `edges`, `inputs`,
+//!   `is_plain`, `position`.
+//! - `least_weight`, `passes_from` and `passes`: the local test of one hypothesis.
+//! - `Spend::copy`, and `Spend::meets`: whether a p-value meets the level of a stage at a weight.
+//! - `NameIndex::build` and `position`. `SetTable`: an answer for each set of at most 16 hypotheses. `is_level`, `is_p_value`.
+//!
+//! Tables of drafts and of positions in an index, with values by hand, are in tests_cases. Some drafts have one of the faults or
+//! two of them, so that each fault occurs; the others make cases, also with several components and with stages.
 #![tactic(auto)]
 
 mod case;

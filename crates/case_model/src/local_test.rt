@@ -9,8 +9,8 @@ ghost use Rattle.case_model.specs.ClosedTest.{Passes};
 use field_core::Number;
 use fraction::Fraction;
 
-/// Returns the least weight, if it is above 0, at which a p-value passes at a level: p / alpha. `p` is from 0 to 1 with a
-/// denominator of at most 10^30, and `alpha` a level with parts of at most 10,000. So p / alpha has parts of at most 10^34, and
+/// Returns p / alpha, which is the least weight at which a p-value passes at a level, if it is above 0. `p` is from 0 to 1 with a
+/// denominator of at most 10^30, and `alpha` is a level with parts of at most 10,000. So p / alpha has parts of at most 10^34, and
 /// nothing is refused.
 pub fn least_weight(p: &Fraction, alpha: &Fraction) -> Fraction
     requires p { is_p_value p.now ≡ true }
@@ -23,7 +23,7 @@ pub fn least_weight(p: &Fraction, alpha: &Fraction) -> Fraction
     }
 }
 
-/// Whether a p-value passes at a weight, by the least weight at which it passes: the weight is above 0 and at least that.
+/// Whether a p-value passes at a weight, by what `least_weight` returns for it: the weight is above 0 and at least that.
 pub fn passes_from(least: &Fraction, weight: &Fraction) -> bool
     ensures { (p alpha : Ratio) → is_level alpha ≡ true → number_of least.now *ε number_of alpha ≡ number_of p
         → IsTrue result ↔ Passes (number_of p) (number_of weight.now) (number_of alpha) }

@@ -29,7 +29,7 @@ impl NameIndex {
         Ok(index)
     }
 
-    /// Notes a name at a place, unless it has one.
+    /// Notes a name at a place, unless the name has a place already.
     fn note(&mut self, alloc: Global, name: &[u8], at: usize) -> Result<(), NoMemory>
         ensures { OnOk result ((q : List ℕ) → place_of self.new q ≡ option_or (place_of self.old q) (cond
             (bytes_eq q name.now) (Some at) None)) }

@@ -35,7 +35,7 @@ fn has(names: &[Text], name: &[u8]) -> bool
     names.iter().any(|other| name == other.as_bytes())
 }
 
-/// Returns the first name that isn't well formed.
+/// Returns the fault of the first name that isn't well formed.
 #[tactic(auto, unfolding(crate::specs::CaseFaults::name_form, crate::specs::CaseFaults::first_from), using(crate::proofs::FirstFaults::walks))]
 fn name_form(names: &[Text]) -> Option<CaseFault>
     ensures { result ≡ name_form names.now }
@@ -48,7 +48,7 @@ fn name_form(names: &[Text]) -> Option<CaseFault>
     None
 }
 
-/// Returns the first name that is equal to an earlier one.
+/// Returns the fault of the first name that is equal to an earlier one.
 #[tactic(auto, unfolding(crate::specs::CaseFaults::duplicate_name, crate::specs::CaseFaults::first_from), using(crate::proofs::FirstFaults::walks))]
 fn duplicate_name(names: &[Text]) -> Option<CaseFault>
     ensures { result ≡ duplicate_name names.now }

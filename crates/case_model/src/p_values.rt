@@ -29,7 +29,7 @@ fn is_long_p_value(p: &Option<Fraction>) -> bool
     }
 }
 
-/// Returns the first p-value with a denominator above 10^30.
+/// Returns the fault of the first p-value with a denominator above 10^30.
 #[tactic(auto, unfolding(crate::specs::CaseFaults::long_p_value, crate::specs::CaseFaults::first_from), using(crate::proofs::FirstFaults::walks))]
 pub fn long_p_value(p: &[Option<Fraction>]) -> Option<CaseFault>
     ensures { result ≡ long_p_value p.now }
@@ -49,14 +49,14 @@ pub fn has_some(p: &[Option<Fraction>]) -> bool
     p.iter().any(|p| p.is_some())
 }
 
-/// Whether a p-value isn't given.
+/// Whether the p-value at a place isn't given.
 fn is_missing(p: &Option<Fraction>) -> bool
     ensures { result ≡ is_none p.now }
 {
     p.is_none()
 }
 
-/// Returns the first p-value that isn't given.
+/// Returns the fault of the first p-value that isn't given.
 #[tactic(auto, unfolding(crate::specs::CaseFaults::first_from), using(crate::proofs::FirstFaults::walks))]
 fn first_missing(p: &[Option<Fraction>]) -> Option<CaseFault>
     ensures { result ≡ first_of (λ i p. PMissing i when is_none p) p.now }
@@ -87,7 +87,7 @@ fn is_outside(p: &Option<Fraction>) -> bool
     }
 }
 
-/// Returns the first p-value that isn't from 0 to 1.
+/// Returns the fault of the first p-value that isn't from 0 to 1.
 #[tactic(auto, unfolding(crate::specs::CaseFaults::p_range, crate::specs::CaseFaults::first_from), using(crate::proofs::FirstFaults::walks))]
 fn p_range(p: &[Option<Fraction>]) -> Option<CaseFault>
     ensures { result ≡ p_range p.now }

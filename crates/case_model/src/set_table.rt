@@ -4,8 +4,8 @@ ghost use Rattle.std.specs.Prelude.{◌≡◌, ◌≤◌, ◌^◌, length};
 use field_core::{List, NoMemory};
 use std::alloc::Global;
 
-/// An answer for each set of some hypotheses, of which there are at most 16. A set is a number whose bit `i` says whether
-/// hypothesis `i` is in it.
+/// An answer, true or false, for each set of at most 16 hypotheses. A set is denoted by a number, whose bit `i` is 1 if the
+/// hypothesis `i` is in the set.
 #[derive(Drop)]
 pub struct SetTable {
     size: usize,
@@ -41,7 +41,7 @@ impl SetTable {
         self.size
     }
 
-    /// Whether the table says yes for a set.
+    /// Whether the answer for a set is true.
     pub fn get(&self, set: u32) -> bool
         requires { set < 2 ^ table_size self.now }
         ensures { result ≡ answer_of self.now set }

@@ -1,4 +1,4 @@
-//! Sets of hypotheses as numbers: bit `k` says whether hypothesis `k` is in the set.
+//! Sets of hypotheses as numbers: bit `k` is 1 if the hypothesis `k` is in the set.
 ghost use Rattle.std.specs.Prelude.{◌≡◌, ◌<◌, ◌+◌, ◌^◌, true, false};
 ghost use Rattle.field_core.specs.Sets.{HaveSameMembers, dropping, adding};
 ghost use Rattle.field_core.specs.NumberedSets.{members};
@@ -23,7 +23,7 @@ pub fn dropped(set: u32, k: usize) -> u32
     set - (1 << k)
 }
 
-/// Returns the set with `k` more.
+/// Returns the set with the member `k` added.
 pub fn added(set: u32, k: usize) -> u32
     requires set { set < 2 ^ 16 }
     requires k { k < 16 }

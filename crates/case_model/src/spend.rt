@@ -68,7 +68,7 @@ impl Spend {
         }
     }
 
-    /// Returns the first fraction with a part above 10,000.
+    /// Returns the fault of the first fraction with a part above 10,000.
     #[tactic(auto, unfolding(crate::specs::CaseFaults::long_fraction, crate::specs::CaseFaults::first_from), using(crate::proofs::FirstFaults::walks))]
     pub(crate) fn long_fraction(&self, i: usize) -> Option<CaseFault>
         ensures { result ≡ long_fraction i self.now }
@@ -87,7 +87,7 @@ impl Spend {
         }
     }
 
-    /// Returns the first step with a part above 10^18.
+    /// Returns the fault of the first step with a part above 10^18.
     #[tactic(auto, unfolding(crate::specs::CaseFaults::long_step, crate::specs::CaseFaults::first_from), using(crate::proofs::FirstFaults::walks))]
     pub(crate) fn long_step(&self, i: usize) -> Option<CaseFault>
         ensures { result ≡ long_step i self.now }
@@ -106,7 +106,7 @@ impl Spend {
         }
     }
 
-    /// Whether a list has this number of fractions; or a table has a step, and each step this number of levels.
+    /// Whether a list has `count` fractions; or a table has a step, and each of its steps has `count` levels.
     pub(crate) fn has_all_stages(&self, count: u64) -> bool
         ensures { result ≡ has_all_stages count self.now }
     {
@@ -130,7 +130,7 @@ impl Spend {
         }
     }
 
-    /// Returns the first step whose weight isn't above 0, at most 1 and above that of the step before.
+    /// Returns the fault of the first step whose weight isn't above 0, at most 1 and above that of the step before.
     #[tactic(auto, unfolding(crate::specs::CaseFaults::step_order, crate::specs::CaseFaults::first_from), using(crate::proofs::FirstFaults::walks))]
     pub(crate) fn step_order(&self, i: usize) -> Option<CaseFault>
         ensures { result ≡ step_order i self.now }
@@ -150,7 +150,8 @@ impl Spend {
         }
     }
 
-    /// Returns the first fraction below 0; or the first level, step by step, that is below 0 or below that of the step before.
+    /// Returns the fault of the first fraction below 0; or of the first level, step by step, that is below 0 or below that of the
+    /// step before.
     #[tactic(auto, unfolding(crate::specs::CaseFaults::spend_range, crate::specs::CaseFaults::first_from), using(crate::proofs::FirstFaults::walks))]
     pub(crate) fn range_fault(&self, i: usize) -> Option<CaseFault>
         ensures { result ≡ spend_range i self.now }

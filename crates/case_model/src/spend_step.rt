@@ -10,7 +10,7 @@ use field_core::{List, NoMemory, Number, Place, TooWide};
 use fraction::Fraction;
 use std::alloc::Global;
 
-/// A step of a table of levels: the weight from which it counts, and the level of each stage from there on.
+/// A step of a table of levels: the weight from which the step counts, and the level of each stage from this weight on.
 #[derive(Drop)]
 pub struct SpendStep {
     pub from: Fraction,
@@ -48,14 +48,14 @@ impl SpendStep {
         Ok(all)
     }
 
-    /// Whether the parts of its weight and of its levels are at most 10^18.
+    /// Whether the parts of the step's weight and of its levels are at most 10^18.
     pub(crate) fn is_short(&self) -> bool
         ensures { result ≡ (is_short self.now.from && list_all is_short self.now.levels) }
     {
         is_short(&self.from) && are_short(self.levels.as_slice())
     }
 
-    /// Returns the sum of its levels.
+    /// Returns the written sum of the step's levels, or that it is too wide.
     #[tactic(auto, unfolding(crate::specs::Sums::ratio_at), using(std::proofs::lemmas::List::get_or_default))]
     fn sum(&self) -> Result<Fraction, TooWide>
         ensures { ok_map terms result ≡ or_wide Add (written_sum (length self.now.levels) (ratio_at self.now.levels)) }
@@ -64,8 +64,8 @@ impl SpendStep {
         written_sum(levels.len(), |t| levels[t])
     }
 
-    /// Returns the fault of the sum of its levels for a hypothesis. Either the sum or the bound is too wide, or the sum is
-    /// above the bound, which is its weight times the level `alpha`.
+    /// Returns the fault of the sum of the step's levels, for the hypothesis `i`. The bound is the step's weight times the level
+    /// `alpha`; the fault is that the sum or the bound is too wide, or that the sum is above the bound.
     #[tactic(auto, unfolding(crate::specs::CaseFaults::step_sum))]
     pub(crate) fn sum_fault(&self, i: usize, alpha: &Fraction) -> Option<CaseFault>
         ensures { result ≡ step_sum i alpha.now self.now }
@@ -103,7 +103,7 @@ pub fn weight_before(steps: &[SpendStep], n: usize) -> Option<Fraction>
     }
 }
 
-/// Whether a weight is above another one, if there is one.
+/// Whether a weight is above that of the step before, if there is one.
 #[tactic(auto, using(crate::proofs::Comparisons::orders))]
 pub fn is_later(before: Option<Fraction>, from: &Fraction) -> bool
     ensures { result ≡ is_later before from.now }
@@ -128,7 +128,7 @@ fn level_before(steps: &[SpendStep], n: usize, t: usize) -> Option<Fraction>
     }
 }
 
-/// Whether a level is below another one, if there is one.
+/// Whether a level is below that of the step before, if there is one.
 #[tactic(auto, using(crate::proofs::Comparisons::orders))]
 fn is_lower(before: Option<Fraction>, level: &Fraction) -> bool
     ensures { result ≡ is_lower before level.now }
@@ -139,7 +139,7 @@ fn is_lower(before: Option<Fraction>, level: &Fraction) -> bool
     }
 }
 
-/// Returns the first level of the step at place `n` that is below 0, or below that of the step before.
+/// Returns the fault of the first level of the step at place `n` that is below 0, or below that of the step before.
 #[tactic(auto, unfolding(crate::specs::CaseFaults::falling_level, crate::specs::CaseFaults::first_from), using(crate::proofs::FirstFaults::walks))]
 fn falling_level(i: usize, steps: &[SpendStep], n: usize, levels: &[Fraction]) -> Option<CaseFault>
     ensures { result ≡ falling_level i (step_before steps.now n) levels.now }
@@ -153,7 +153,7 @@ fn falling_level(i: usize, steps: &[SpendStep], n: usize, levels: &[Fraction]) -
     None
 }
 
-/// Returns the first level, step by step, that is below 0, or below that of the step before.
+/// Returns the fault of the first level, step by step, that is below 0, or below that of the step before.
 #[tactic(auto, unfolding(crate::specs::CaseFaults::first_from), using(crate::proofs::FirstFaults::walks))]
 pub fn falling_step(i: usize, steps: &[SpendStep]) -> Option<CaseFault>
     ensures { result ≡ first_of (λ n s. falling_level i (step_before steps.now n) s.levels) steps.now }

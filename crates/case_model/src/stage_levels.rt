@@ -22,8 +22,8 @@ pub fn at_stage(fractions: &[Fraction], t: usize) -> Option<Fraction>
     fractions.get(t - 1).copied()
 }
 
-/// Returns the level of a stage, from 1, in the last step that a weight reaches; `None` if it reaches none, or the step has
-/// none.
+/// Returns the level of a stage, from 1, in the last step that a weight reaches. It is `None` if the weight reaches no step, or
+/// that step has no level for the stage.
 pub fn table_level(steps: &[SpendStep], t: usize, weight: &Fraction) -> Option<Fraction>
     requires { 1 ≤ t }
     ensures { result ≡ option_and_then (λ s. slice_get s.levels (t - 1)) (last_step steps.now (number_of weight.now)) }
@@ -37,7 +37,7 @@ pub fn table_level(steps: &[SpendStep], t: usize, weight: &Fraction) -> Option<F
     None
 }
 
-/// Whether a p-value meets a level at a weight: both are above 0, and it is at most the level.
+/// Whether a p-value meets a level at a weight: the level and the weight are above 0, and the p-value is at most the level.
 pub fn meets_level(level: &Fraction, weight: &Fraction, p: &Fraction) -> bool
     ensures { result ≡ (not (at_most (number_of weight.now) number_zero) && not
         (at_most (number_of level.now) number_zero) && at_most (number_of p.now) (number_of level.now)) }
@@ -45,7 +45,7 @@ pub fn meets_level(level: &Fraction, weight: &Fraction, p: &Fraction) -> bool
     is_above_zero(weight) && is_above_zero(level) && is_at_most(p, level)
 }
 
-/// Returns the level of a stage at the weight 1: a fraction of the level of the case. Its parts are at most 10^8.
+/// Returns the level of a stage at the weight 1, which is a fraction of the level of the case. Its parts are at most 10^8.
 fn full_level(fraction: &Fraction, alpha: &Fraction) -> Fraction
     requires fraction { is_short_level fraction.now ≡ true }
     requires alpha { is_level alpha.now ≡ true }
@@ -58,7 +58,7 @@ fn full_level(fraction: &Fraction, alpha: &Fraction) -> Fraction
     }
 }
 
-/// Returns the least weight, if it is above 0, at which a p-value is at most a level times the weight.
+/// Returns the least weight at which a p-value is at most a level times the weight.
 fn weight_for(p: &Fraction, level: &Fraction) -> Fraction
     requires p { is_p_value p.now ≡ true }
     requires short { is_within 100000000 (terms level.now) ≡ true }

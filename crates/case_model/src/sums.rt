@@ -11,7 +11,7 @@ use crate::CaseFault;
 use field_core::{Number, Place, TooWide};
 use fraction::Fraction;
 
-/// Returns the sum of a number of fractions, written one after another.
+/// Returns the sum of `count` fractions, added one after another, or that the written sum is too wide.
 pub fn written_sum<F: Fn(usize) -> Fraction>(count: usize, at: F) -> Result<Fraction, TooWide>
     requires { (i : ℕ) → i < count → F.pre at i }
     ensures { (f : ℕ → Ratio) → ((i : ℕ) (x : Ratio) → i < count → F.post at i x → x ≡ f i)
@@ -24,7 +24,7 @@ pub fn written_sum<F: Fn(usize) -> Fraction>(count: usize, at: F) -> Result<Frac
     Ok(sum)
 }
 
-/// Returns the fault of the sum of a number of fractions: that it is too wide, or else that it is above 1.
+/// Returns the fault of the sum of `count` fractions: that it is too wide, or else that it is above 1.
 pub fn total_fault<F: Fn(usize) -> Fraction>(
     count: usize,
     at: F,

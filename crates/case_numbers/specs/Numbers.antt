@@ -27,12 +27,12 @@ abbrev pub CanRunIn : Numbers → Content → Type 0
 CanRunIn in_fractions c = is_plain c ≡ true
 CanRunIn in_quotients c = Unit {0}
 
--- how these numbers are written
+-- the written operations of these numbers
 abbrev pub kind_of : Numbers → Kind
 kind_of in_fractions = plain
 kind_of in_quotients = quotients
 
--- what their kind stores
+-- which parts their kind stores
 abbrev pub IsStoredIn : Numbers → Parts → Type 0
 IsStoredIn in_fractions = IsFraction
 IsStoredIn in_quotients = IsQuotient
@@ -41,7 +41,7 @@ IsStoredIn in_quotients = IsQuotient
 abbrev pub five_coefficients : List Ratio → List Ratio
 five_coefficients e = ratio_at e 0 ∷ ratio_at e 1 ∷ ratio_at e 2 ∷ ratio_at e 3 ∷ ratio_at e 4 ∷ []
 
--- a weight, as it is: nothing is written
+-- a weight as a number, with nothing written
 abbrev pub loaded_weight : Numbers → Ratio → Parts
 loaded_weight in_fractions x = single (terms x)
 loaded_weight in_quotients x = term 0 (terms x)

@@ -21,7 +21,7 @@ made_unless d (Some fault) = Err (OfCase fault)
 unfoldable pub made : Draft → Result Content CatalogueFault
 made d = made_unless d (case_fault d)
 
--- the fault of the sizes or of the seed, or else what is made
+-- the given fault, of a size or of the seed, or else what is made
 abbrev pub behind : Option CatalogueFault → Result Content CatalogueFault → Result Content CatalogueFault
 behind (Some fault) r = Err fault
 behind None r = r

@@ -26,7 +26,7 @@ holm_graph n = record {
   edge = λ i j. if i == j then None else Some (constant (part (n - 1)));
 }
 
--- each hypothesis passes all its weight to the next one
+-- an edge of weight 1 from each hypothesis to the next one
 abbrev pub next_edge : ℕ → ℕ → Option (List Ratio)
 next_edge i j = if j == suc i then Some (constant one_ratio) else None
 
@@ -42,8 +42,8 @@ fallback_graph ws = record { size = length ws; weight = ratio_at ws; edge = next
 unfoldable pub equal_weights : ℕ → List Ratio
 equal_weights n = replicate n (part n)
 
--- Gatekeeping: `a` primary hypotheses share the weight, and each passes it to the `b` secondary ones in equal parts. What a secondary one
--- passes to a primary one, and to another secondary one, is said by `back` and `on`.
+-- Gatekeeping: `a` primary hypotheses share the weight, and each passes it to the `b` secondary ones in equal parts. A secondary one passes `back`
+-- to a primary one, and `on` to another secondary one.
 abbrev pub gate_edge : ℕ → ℕ → (ℕ → ℕ → Option (List Ratio)) → List Ratio → ℕ → ℕ → Option (List Ratio)
 gate_edge a b back on i j =
     if nat_lt i a then (if nat_lt j a then None else Some (constant (part b)))
@@ -56,7 +56,7 @@ gate_graph a b back on = record {
   edge = gate_edge a b back on;
 }
 
--- parallel gatekeeping: secondary hypotheses pass to each other, in equal parts
+-- parallel gatekeeping: secondary hypotheses pass their weight to each other, in equal parts
 unfoldable pub parallel_graph : ℕ → ℕ → WeightedGraph
 parallel_graph a b = gate_graph a b (λ i j. None) (constant (part (b - 1)))
 
@@ -64,6 +64,6 @@ parallel_graph a b = gate_graph a b (λ i j. None) (constant (part (b - 1)))
 abbrev pub back_edge : ℕ → ℕ → ℕ → Option (List Ratio)
 back_edge a i j = if j == (i - a) % a then Some (linear zero_ratio one_ratio) else None
 
--- the improved variant: they keep 1 less epsilon for each other
+-- improved parallel gatekeeping: a secondary hypothesis passes epsilon back to a primary one, and 1 - epsilon to the other secondary ones
 unfoldable pub improved_graph : ℕ → ℕ → WeightedGraph
 improved_graph a b = gate_graph a b (back_edge a) (linear (part (b - 1)) (quotient (negsuc 0) (b - 1)))

@@ -9,7 +9,7 @@ use Rattle.field_core.specs.declared.ratio.Ratio.{Ratio}
 use Rattle.numerals.specs.Lowest.{lowest_terms}
 use Rattle.case_model.specs.Sums.{zero_ratio}
 
--- two numbers have no common divisor above 1, the second isn't 0, and both are below 2^127 in size
+-- whether two numbers have no common divisor above 1, the second isn't 0, and both are below 2^127 in size
 abbrev pub are_lowest : ℤ → ℕ → Bool
 are_lowest n d = nat_lt 0 d && (nat_lt (unsigned_abs n) (2 ^ 127) && (nat_lt d (2 ^ 127) && gcd (unsigned_abs n) d == 1))
 

@@ -6,7 +6,7 @@ use Rattle.case_model.specs.Sums.{number_at}
 use Rattle.case_model.specs.Content.{Content, IsRejectedIn}
 use Rattle.case_model.specs.TextbookRules.{IsFallbackRejected, IsSequenceRejected, IsHolmRejected}
 
--- If there are p-values, the closed test on a case rejects just the hypotheses that a rule rejects.
+-- If there are p-values, the closed test on a case rejects exactly the hypotheses that a rule rejects.
 abbrev pub DecidesAs : List Ratio → (ℕ → Type 0) → Content → Type 0
 DecidesAs ps Rejects c = ¬ (ps ≡ []) → (j : ℕ) → IsRejectedIn c j ↔ Rejects j
 

@@ -19,14 +19,14 @@ use field_core::{List, NoMemory};
 use fraction::Fraction;
 use std::alloc::Global;
 
-/// Returns the edge of weight 1 from a hypothesis to the next one.
+/// Returns an edge of weight 1 if `to` is the hypothesis after `from`, and else none.
 fn next_edge(from: usize, to: usize) -> Option<Entry>
     ensures { result ≡ next_edge from to }
 {
     (to > 0 && to - 1 == from).then_some(constant(one()))
 }
 
-/// All weight for the first hypothesis.
+/// The graph of the fixed sequence: the first hypothesis has the weight 1.
 #[derive(Clone, Copy)]
 struct Sequence {
     size: usize,
@@ -51,7 +51,7 @@ impl NamedGraph for Sequence {
     }
 }
 
-/// Given weights.
+/// The graph of fallback, with given weights.
 #[derive(Clone, Copy)]
 struct Weighted<'a> {
     weights: &'a [Fraction],
@@ -79,6 +79,9 @@ impl NamedGraph for Weighted<'_> {
 /// Returns the fixed sequence of `n` hypotheses, from 1 to 64: the first one has the weight 1, and each passes all its
 /// weight to the next one. `p` has no p-value, or one for each hypothesis. The closed test on the case rejects exactly
 /// what the fixed sequence rejects.
+///
+/// Unless out of memory, the call is refused with `Size` exactly if `n` isn't from 1 to 64, and else with `Case` exactly if the
+/// draft has an error.
 #[tactic(auto, unfolding(crate::specs::Makings::sequence_case))]
 pub fn fixed_sequence(
     alloc: Global,
@@ -98,6 +101,9 @@ pub fn fixed_sequence(
 
 /// Returns the case of fallback with these weights, 1 to 64 of them. Each hypothesis passes all its weight to the next one. `p`
 /// has no p-value, or one for each hypothesis. The closed test on the case rejects exactly what the fallback rule rejects.
+///
+/// Unless out of memory, the call is refused with `Size` exactly if there aren't 1 to 64 weights, and else with `Case` exactly if
+/// the draft has an error.
 #[tactic(auto, unfolding(crate::specs::Makings::fallback_case))]
 pub fn fallback(
     alloc: Global,
@@ -131,6 +137,9 @@ fn equal_weights(alloc: Global, n: usize) -> Result<List<Fraction>, NoMemory>
 
 /// Returns the case of fallback with the weight 1/n for each of `n` hypotheses, from 1 to 64. `p` has no p-value, or one for
 /// each hypothesis.
+///
+/// Unless out of memory, the call is refused with `Size` exactly if `n` isn't from 1 to 64, and else with `Case` exactly if the
+/// draft has an error.
 #[tactic(auto, using(crate::proofs::EqualChains::size_refused))]
 pub fn equal_fallback(
     alloc: Global,

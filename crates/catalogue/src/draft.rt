@@ -91,7 +91,7 @@ fn edges<G: NamedGraph>(alloc: Global, graph: &G) -> Result<List<DraftEdge>, NoM
     Ok(edges)
 }
 
-/// Returns the p-values, each in its place.
+/// Returns the places of a draft that these p-values fill.
 fn places(alloc: Global, p: &[Fraction]) -> Result<List<Option<Fraction>>, NoMemory>
     ensures { IfOk result (λ places. places ≡ map Some p.now) }
 {

@@ -16,7 +16,7 @@ use case_model::{Case, Entry};
 use fraction::Fraction;
 use std::alloc::Global;
 
-/// Equal weights, and equal edges between different hypotheses.
+/// Holm's graph: equal weights, and equal edges between different hypotheses.
 #[derive(Clone, Copy)]
 struct Equal {
     size: usize,
@@ -47,6 +47,9 @@ impl NamedGraph for Equal {
 
 /// Returns the case of Holm's graph of `n` hypotheses, from 1 to 64. Each has the weight 1/n and passes 1/(n - 1) to each other
 /// one. `p` has no p-value, or one for each hypothesis. The closed test on the case rejects exactly what Holm's rule rejects.
+///
+/// Unless out of memory, the call is refused with `Size` exactly if `n` isn't from 1 to 64, and else with `Case` exactly if the
+/// draft has an error.
 #[tactic(auto, unfolding(crate::specs::Makings::holm_case))]
 pub fn holm(alloc: Global, n: u64, alpha: Fraction, p: &[Fraction]) -> Result<Case, CatalogueFault>
     ensures case { IfOk result (λ c. holm_case n alpha p.now ≡ Ok (content c)) }

@@ -7,7 +7,7 @@ use field_core::NoMemory;
 /// Why a case isn't made. Sizes are tested first, then the seed, then the draft.
 #[derive(Clone, Copy, PartialEq, Eq)]
 pub enum CatalogueFault {
-    /// A size is 0; else there are more than 64 hypotheses, and this is their number, or 2^64 - 1 if it is above that.
+    /// A size is 0, or there are more than 64 hypotheses. The number is 0, or that of the hypotheses, or 2^64 - 1 if it is above that.
     Size(u64),
     /// The seed is 2^48 or more.
     Seed(u64),
@@ -20,7 +20,7 @@ pub enum CatalogueFault {
 impl CatalogueFault {
     ghost use Rattle.catalogue.specs.declared.fault.CatalogueFault.TheVariants.{Case as OfCase, NoMemory as OutOfMemory};
 
-    /// Returns what the fault of a refused draft is here.
+    /// Returns the fault of a refused draft as a fault of a named graph.
     pub(crate) fn of_case(fault: CaseFault) -> CatalogueFault
         ensures memory { fault ≡ CaseFault.NoMemory → result ≡ OutOfMemory }
         ensures case { (fault ≡ CaseFault.NoMemory) ⊎ (result ≡ OfCase fault) }

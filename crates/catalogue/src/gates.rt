@@ -47,7 +47,7 @@ impl Families {
         }
     }
 
-    /// Returns what a primary hypothesis passes to the hypothesis at a position: equal parts to the secondary ones.
+    /// Returns the edge from a primary hypothesis to the hypothesis at a position: equal parts go to the secondary ones.
     fn edge_on(&self, to: usize) -> Option<Entry>
         ensures { result ≡ (if nat_lt to self.now.primary then None else Some (constant (part self.now.secondary))) }
     {
@@ -57,7 +57,7 @@ impl Families {
         Some(constant(part(self.secondary)))
     }
 
-    /// Returns what a secondary hypothesis passes to a primary one, by turns.
+    /// Returns the edge from a secondary hypothesis to a primary one: epsilon to one of them, by turns, and none to the others.
     fn edge_back(&self, from: usize, to: usize) -> Option<Entry>
         requires { self.now.primary ≤ from }
         ensures { result ≡ back_edge self.now.primary from to }
@@ -70,7 +70,7 @@ impl Families {
     }
 }
 
-/// Secondary hypotheses pass to each other.
+/// The graph of parallel gatekeeping: secondary hypotheses pass their weight to each other.
 #[derive(Clone, Copy)]
 struct ParallelGates {
     families: Families,
@@ -106,7 +106,8 @@ impl NamedGraph for ParallelGates {
     }
 }
 
-/// Secondary hypotheses pass 1 less epsilon to each other, and epsilon back.
+/// The graph of improved parallel gatekeeping: a secondary hypothesis passes 1 - epsilon to the other secondary ones, and epsilon
+/// back to a primary one.
 #[derive(Clone, Copy)]
 struct ImprovedGates {
     families: Families,
@@ -144,7 +145,7 @@ impl NamedGraph for ImprovedGates {
     }
 }
 
-/// Returns two families of sizes that are tested.
+/// Returns two families of these sizes, or the fault of the sizes.
 fn two_families(a: u64, b: u64) -> Result<Families, CatalogueFault>
     ensures families { IfOk result (λ families. (families.primary ≡ a) × (families.secondary ≡ b)) }
     ensures good { IfOk result (λ _. sizes_fault a b ≡ None) }
@@ -157,6 +158,9 @@ fn two_families(a: u64, b: u64) -> Result<Families, CatalogueFault>
 /// Returns the case of parallel gatekeeping with `a` primary and `b` secondary hypotheses, at least 1 of each and at most 64
 /// together. Each primary one has the weight 1/a and passes 1/b to each secondary one; each secondary one passes 1/(b - 1) to
 /// each other secondary one. `p` has no p-value, or one for each hypothesis.
+///
+/// Unless out of memory, the call is refused with `Size` exactly if `a` or `b` is 0 or their sum is above 64. Else it is refused
+/// with `Case` exactly if the draft has an error.
 #[tactic(auto, unfolding(crate::specs::Makings::parallel_case))]
 pub fn parallel(
     alloc: Global,
@@ -172,8 +176,9 @@ pub fn parallel(
     made(alloc, &ParallelGates { families }, alpha, p)
 }
 
-/// Returns the case of improved parallel gatekeeping. Each secondary hypothesis passes epsilon to one primary one, by turns,
-/// and (1 - epsilon)/(b - 1) to each other secondary one.
+/// Returns the case of improved parallel gatekeeping with `a` primary and `b` secondary hypotheses. Each secondary hypothesis
+/// passes epsilon to one primary one, by turns, and (1 - epsilon)/(b - 1) to each other secondary one. All else, and the
+/// refusals, are those of `parallel`.
 #[tactic(auto, unfolding(crate::specs::Makings::improved_case))]
 pub fn improved_parallel(
     alloc: Global,

@@ -20,7 +20,7 @@ impl Generator {
         Generator { number: seed }
     }
 
-    /// Returns one draw.
+    /// Changes the number of the generator, and returns one draw.
     #[tactic(auto, unfolding(crate::specs::Samples::next_number, crate::specs::Samples::drawn_from))]
     pub fn draw(&mut self) -> u64
         ensures number { self.new.number ≡ next_number self.old.number }

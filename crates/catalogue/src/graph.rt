@@ -3,7 +3,7 @@
 use case_model::Entry;
 use fraction::Fraction;
 
-/// A graph over this number of hypotheses, by its weights and edges.
+/// A graph by its number of hypotheses, their weights and its edges.
 pub trait NamedGraph {
     ghost use Rattle.std.specs.Prelude.{◌≡◌, ◌<◌};
     ghost use Rattle.catalogue.specs.WeightedGraphs.{WeightedGraph};

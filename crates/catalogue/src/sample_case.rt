@@ -20,7 +20,7 @@ use std::alloc::Global;
 /// The first seed that is too large.
 const SEEDS: u64 = 1 << 48;
 
-/// Equal weights, and edges of 1/2 to one or two later hypotheses.
+/// The graph of a sample: equal weights, and edges of 1/2 to one or two later hypotheses.
 #[derive(Drop)]
 struct Halves {
     size: usize,
@@ -70,7 +70,7 @@ fn p_values(
     Ok(p_values)
 }
 
-/// Returns the later hypothesis, among this number, that the next draw names for a hypothesis.
+/// Returns the hypothesis, after `i` and below `size`, that the next draw names as the end of an edge.
 fn later(generator: &mut Generator, size: usize, i: usize) -> usize
     requires few { size ≤ 64 }
     requires later { i + 1 < size }
@@ -102,7 +102,10 @@ fn ends(
 }
 
 /// Returns the sample of `n` hypotheses, from 1 to 64, and a seed below 2^48, at level 1/20. Weights are 1/n, and p-values are
-/// drawn from 0 to 999999/10^8. Each hypothesis has edges of 1/2 to one or two later ones that are drawn.
+/// drawn from 0 to 999999/10^8. Each hypothesis but the last has edges of 1/2 to one or two later ones that are drawn.
+///
+/// Unless out of memory, the call is refused with `Size` exactly if `n` isn't from 1 to 64, and else with `Seed` exactly if the
+/// seed isn't below 2^48.
 #[tactic(auto, unfolding(crate::specs::Makings::sample_case, crate::specs::Makings::seed_fault))]
 pub fn sample(alloc: Global, n: u64, seed: u64) -> Result<Case, CatalogueFault>
     ensures case { IfOk result (λ c. sample_case n seed ≡ Ok (content c)) }

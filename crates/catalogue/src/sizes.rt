@@ -1,4 +1,4 @@
-//! Sizes.
+//! The sizes of named graphs.
 ghost use Rattle.std.specs.Prelude.{◌≡◌, ◌≤◌, ◌+◌, None, Some, IfOk, IfErr};
 ghost use Rattle.catalogue.specs.Sizes.{size_fault, sizes_fault};
 
@@ -7,7 +7,7 @@ use crate::CatalogueFault;
 /// The most hypotheses that a case may have.
 const MOST: u64 = 64;
 
-/// Returns a number of hypotheses, from 1 to 64.
+/// Returns a number of hypotheses, or `Size` if it isn't from 1 to 64.
 #[tactic(auto, unfolding(crate::specs::Sizes::size_fault))]
 pub fn size_of(n: u64) -> Result<usize, CatalogueFault>
     ensures size { IfOk result (λ size. size ≡ n) }
@@ -21,7 +21,7 @@ pub fn size_of(n: u64) -> Result<usize, CatalogueFault>
     Ok(n as usize)
 }
 
-/// Returns two numbers of hypotheses, each at least 1, their sum at most 64.
+/// Returns two numbers of hypotheses, or `Size` if one of them is 0 or their sum is above 64.
 #[tactic(auto, unfolding(crate::specs::Sizes::size_fault, crate::specs::Sizes::sizes_fault))]
 pub fn sizes_of(a: u64, b: u64) -> Result<(usize, usize), CatalogueFault>
     ensures sizes { IfOk result (λ sizes. (sizes.0 ≡ a) × (sizes.1 ≡ b)) }

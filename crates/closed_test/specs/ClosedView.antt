@@ -7,10 +7,10 @@ use Rattle.closed_test.specs.declared.table.ClosedTable.{ClosedTable}
 abbrev pub weights_of : ClosedTable → WeightTable
 weights_of t = t.weights
 
--- what the local test says
+-- which sets the local test rejects
 abbrev pub local_of : ClosedTable → SetTable
 local_of t = t.local
 
--- what the closed test says
+-- which sets the closed test rejects
 abbrev pub closed_of : ClosedTable → SetTable
 closed_of t = t.closed

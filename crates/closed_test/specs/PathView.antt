@@ -7,10 +7,10 @@ use Rattle.closed_test.specs.declared.path.Path.{Path}
 abbrev pub path_size : Path → ℕ
 path_size p = p.size
 
--- what its set leaves out, ascending
+-- the hypotheses that the set of a path leaves out, ascending
 abbrev pub left_of : Path → List ℕ
 left_of p = p.left.items
 
--- its set leaves out its list
+-- the set of a path is the one that leaves out its list
 abbrev pub IsPath : Path → Type 0
 IsPath p = IsLeftOutOf p.size p.set p.left.items

@@ -1,4 +1,4 @@
--- The written runs of the sets of a case: of each the opening, and then the removals of the hypotheses that it leaves out, ascending (this project's own).
+-- The written runs of the sets of a case: the opening, and then the removals of the hypotheses that the set leaves out, ascending (this project's own).
 use Rattle.std.specs.Prelude.{◌≡◌, ◌<◌, ◌^◌, ℕ, length, Result, Ok, Err}
 use Rattle.field_core.specs.NumberedSets.{members}
 use Rattle.field_core.specs.OrderOfSets.{left_out, ComesBefore}
@@ -23,7 +23,7 @@ IsRunDefined c n = (s : CaseState) × (set_run c n ≡ Ok s)
 abbrev pub AreRunsDefined : Content → Type 0
 AreRunsDefined c = (n : ℕ) → n < 2 ^ length c.names → IsRunDefined c n
 
--- the set of `n` is the first, in the order of sets, whose run is undefined, and `w` is the first operation of it that is
+-- the set of `n` is the first, in the order of sets, whose run is undefined, and `w` is the first undefined operation of this run
 pub record IsFirstWideSet (c : Content) (n : ℕ) (w : WideAt) : Type 0 where
   pub below : n < 2 ^ length c.names
   pub wide : set_run c n ≡ Err w

@@ -6,10 +6,10 @@ use Rattle.case_model.specs.Content.{Content, ForSingle, entangled}
 use Rattle.case_model.specs.ClosedTest.{IsLocallyRejected, IsClosedRejected}
 use Rattle.case_model.specs.SetAnswers.{AnswersFor}
 
--- a table says which sets the local test rejects
+-- a table answers for each set whether the local test rejects it
 abbrev pub AreLocalAnswers : Content → (ℕ → Bool) → Type 0
 AreLocalAnswers c table = ForSingle c.inputs (λ ps. AnswersFor (length c.names) (IsLocallyRejected (entangled c) (number_at ps) (number_of c.alpha)) table)
 
--- a table says which sets the closed test rejects
+-- a table answers for each set whether the closed test rejects it
 abbrev pub AreClosedAnswers : Content → (ℕ → Bool) → Type 0
 AreClosedAnswers c table = ForSingle c.inputs (λ ps. AnswersFor (length c.names) (IsClosedRejected (entangled c) (number_at ps) (number_of c.alpha)) table)

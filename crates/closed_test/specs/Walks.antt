@@ -21,11 +21,11 @@ pub record IsTabled (c : Content) (weight : ℕ → ℕ → Ratio) (js : List �
   pub run : case_after c js ≡ Ok state
   pub row : (k : ℕ) → IsIn (length c.names) (left_after whole js) k → terms (weight (number_without (length c.names) js) k) ≡ case_level state k
 
--- so it is for all sets up to the one that leaves out `js`
+-- this holds of all sets up to the one that leaves out `js`
 abbrev pub AreTabledTo : Content → (ℕ → ℕ → Ratio) → List ℕ → Type 0
 AreTabledTo c weight js = (xs : List ℕ) → IsAscending (length c.names) 0 xs → ComesBefore xs js ⊎ (xs ≡ js) → IsTabled c weight xs
 
--- so it is for all sets
+-- this holds of all sets
 abbrev pub AreAllTabled : Content → (ℕ → ℕ → Ratio) → Type 0
 AreAllTabled c weight = (xs : List ℕ) → IsAscending (length c.names) 0 xs → IsTabled c weight xs
 
@@ -45,6 +45,6 @@ pub record AreAlike (s t : CaseState) : Type 0 where
   pub size : case_size s ≡ case_size t
   pub shares : case_shares s ≡ case_shares t
 
--- so is each state up to some number, and the first
+-- each of the first `count` states is alike the first one in this way
 abbrev pub AreLikeTheFirst : ℕ → List CaseState → Type 0
 AreLikeTheFirst count states = (n : ℕ) (d : CaseState) → n < count → AreAlike (get_or states n d) (get_or states 0 d)

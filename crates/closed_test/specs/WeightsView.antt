@@ -4,7 +4,7 @@ use Rattle.field_core.specs.declared.ratio.Ratio.{Ratio}
 use Rattle.case_model.specs.Sums.{ratio_at}
 use Rattle.closed_test.specs.declared.weights.WeightTable.{WeightTable}
 
--- for how many hypotheses a table is
+-- the number of hypotheses that a table is for
 abbrev pub weights_size : WeightTable → ℕ
 weights_size t = t.size
 

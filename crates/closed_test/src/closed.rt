@@ -8,7 +8,7 @@ use case_model::{SetTable, added, holds};
 use field_core::NoMemory;
 use std::alloc::Global;
 
-/// Whether a table says yes of each set with one member more.
+/// Whether the answers for all sets with one member more than this one are true.
 fn all_larger(closed: &SetTable, set: u32) -> bool
     requires { set < 2 ^ table_size closed.now }
     ensures { (result ≡ true) ↔ ((k : ℕ) → k < table_size closed.now → members set k ≡ false
@@ -22,7 +22,7 @@ fn all_larger(closed: &SetTable, set: u32) -> bool
     true
 }
 
-/// Whether a table says yes of each set that holds a set, if another one says that of all sets with a greater number.
+/// Whether `local` answers true for each set that contains a set. `closed` has this answer for all sets with a greater number.
 fn answer(local: &SetTable, closed: &SetTable, set: u32) -> bool
     requires size { table_size closed.now ≡ table_size local.now }
     requires set { set < 2 ^ table_size local.now }
@@ -32,10 +32,10 @@ fn answer(local: &SetTable, closed: &SetTable, set: u32) -> bool
     local.get(set) && all_larger(closed, set)
 }
 
-/// Returns the answers of the closed test of a local test, whose answers for all sets are given. A set is rejected if the local
-/// test rejects each set that holds it.
+/// Returns the answers of the closed test, given those of the local test for all sets. The answer for a set is true exactly if
+/// the local test rejects each set that contains it.
 ///
-/// The sets are taken from larger ones to smaller ones. The same holds of the empty set, and nothing more.
+/// The sets are taken in descending order of their numbers, down to the empty set, of which the same holds.
 pub fn closed_answers(alloc: Global, local: &SetTable) -> Result<SetTable, NoMemory>
     ensures size { IfOk result (λ t. table_size t ≡ table_size local.now) }
     ensures answers { IfOk result (λ t. AreClosedFrom (table_size local.now) (answer_of local.now) (answer_of t) 0) }

@@ -5,9 +5,9 @@ use std::alloc::AllocError;
 /// Why there is no table of all sets.
 #[derive(Clone, Copy, PartialEq, Eq, Debug)]
 pub enum ClosedFault {
-    /// There are this number of hypotheses, more than 16.
+    /// There are more than 16 hypotheses; the number is theirs.
     TooMany(u64),
-    /// The first set, in the order of sets, whose run is undefined, and the first operation of the run that is.
+    /// The first set, in the order of sets, whose run is undefined, and the first undefined operation of this run.
     Wide(u32, WideAt),
     /// Out of memory.
     NoMemory,

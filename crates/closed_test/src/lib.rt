@@ -1,4 +1,4 @@
-//! All intersections of a case: their weights, and what the local test and the closed test say of them.
+//! All intersections of a case: their weights, and which of them the local test and the closed test reject.
 //!
 //! Proved, for at most 16 hypotheses:
 //! - `WeightTable::build`: `weights` (the intersection weight of each hypothesis in each set). `fault` and `defined` (too many

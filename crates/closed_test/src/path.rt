@@ -22,7 +22,7 @@ impl Path {
     ghost use Rattle.closed_test.specs.Paths.{number_without};
     ghost use Rattle.closed_test.specs.PathView.{path_size, left_of, IsPath};
 
-    /// Returns the first set, that of all hypotheses.
+    /// Returns the path of all sets of `size` hypotheses, from 1 to 16, at the first set, that of all hypotheses.
     pub fn new(alloc: Global, size: usize) -> Result<Path, NoMemory>
         requires some { 0 < size }
         requires few { size ≤ 16 }
@@ -54,7 +54,7 @@ impl Path {
         self.left.len()
     }
 
-    /// Leaves out `k` too, which comes after all that are left out.
+    /// Leaves out `k` too, which comes after all hypotheses that are left out.
     fn leave_out(&mut self, k: usize)
         requires path { IsPath self.old }
         requires after { IsAscending self.old.size 0 (left_of self.old ++ k ∷ []) }
@@ -66,7 +66,7 @@ impl Path {
         self.left.push_reserved(k);
     }
 
-    /// Takes back the last that is left out; `None` if nothing is.
+    /// Takes the last hypothesis that is left out back into the set, and returns it; `None` if none is left out.
     fn take_back(&mut self) -> Option<usize>
         requires { IsPath self.old }
         ensures size { self.new.size ≡ self.old.size }
@@ -83,8 +83,8 @@ impl Path {
         }
     }
 
-    /// Goes to the next set in the order of sets, and returns the last hypothesis that it leaves out. All others that it leaves
-    /// out begin what was left out before. `None` after the last set; the path is then at the first set again.
+    /// Moves to the next set in the order of sets, and returns the last hypothesis that this set leaves out. Its other left-out
+    /// hypotheses are the first ones of the list before. After the last set it returns `None`, and the path is at the first set again.
     pub fn step(&mut self) -> Option<usize>
         requires { IsPath self.old }
         ensures size { path_size self.new ≡ path_size self.old }

@@ -17,7 +17,7 @@ use fraction::Fraction;
 use sequential::single_p_values;
 use std::alloc::Global;
 
-/// What the local test and the closed test say of each set of the hypotheses of a case, of which there are at most 16.
+/// Which sets of the hypotheses of a case the local test and the closed test reject. There are at most 16 hypotheses.
 #[derive(Drop)]
 pub struct ClosedTable {
     weights: WeightTable,
@@ -43,7 +43,7 @@ fn has_passing(weights: &WeightTable, p_values: &[Fraction], alpha: &Fraction, s
     false
 }
 
-/// Returns what the local test says of each set.
+/// Returns for each set whether the local test rejects it.
 fn local_answers(alloc: Global, case: &Case, weights: &WeightTable) -> Result<SetTable, NoMemory>
     requires single { IsSingle (content case.now).inputs }
     requires size { weights_size weights.now ≡ length (content case.now).names }
@@ -76,7 +76,7 @@ impl ClosedTable {
 
     /// Returns the tests of all sets of a case that has a p-value for each hypothesis, at its level.
     ///
-    /// Unless out of memory, there is no table exactly if there is none of the weights.
+    /// Unless out of memory, the call is refused exactly if `WeightTable::build` is, and with the same fault.
     pub fn build(alloc: Global, case: &Case) -> Result<ClosedTable, ClosedFault>
         requires { IsSingle (content case.now).inputs }
         ensures size { IfOk result (λ t. weights_size (weights_of t) ≡ length (content case.now).names) }
@@ -96,7 +96,7 @@ impl ClosedTable {
         })
     }
 
-    /// Whether the local test rejects a set; a table that was built says no to the empty one.
+    /// Whether the local test rejects a set. For the empty set this is false in a table that was built.
     pub fn local(&self, set: u32) -> bool
         requires { set < 2 ^ weights_size (weights_of self.now) }
         ensures { result ≡ answer_of (local_of self.now) set }
@@ -104,7 +104,7 @@ impl ClosedTable {
         self.local.get(set)
     }
 
-    /// Whether the closed test rejects a set; a table that was built says no to the empty one.
+    /// Whether the closed test rejects a set. For the empty set this is false in a table that was built.
     pub fn closed(&self, set: u32) -> bool
         requires { set < 2 ^ weights_size (weights_of self.now) }
         ensures { result ≡ answer_of (closed_of self.now) set }
@@ -119,7 +119,7 @@ impl ClosedTable {
         &self.weights
     }
 
-    /// Returns what the closed test says of each set.
+    /// Returns the table of which sets the closed test rejects.
     pub fn closed_table(&self) -> &SetTable
         ensures table { result.now ≡ closed_of self.now }
         ensures size { table_size result.now ≡ weights_size (weights_of self.now) }

@@ -14,7 +14,7 @@ use case_model::Case;
 use entangled::CaseNet;
 use field_core::WideAt;
 
-/// Makes the nets those of `parent`, with `j` removed.
+/// Makes the nets those of `parent`, and then removes `j` from them.
 fn set_and_remove(nets: &mut CaseNet, parent: &CaseNet, j: usize) -> Result<(), WideAt>
     requires numbers { case_numbers (case_state nets.old) ≡ case_numbers (case_state parent.now) }
     requires size { case_size (case_state nets.old) ≡ case_size (case_state parent.now) }
@@ -26,7 +26,7 @@ fn set_and_remove(nets: &mut CaseNet, parent: &CaseNet, j: usize) -> Result<(), 
     nets.remove(j)
 }
 
-/// Makes the nets below this depth those at it, with `j` removed.
+/// Makes the nets at the next depth those at this depth, and then removes `j` from them.
 fn enter(nets: &mut [CaseNet], depth: usize, j: usize) -> Result<(), WideAt>
     requires depth { depth + 1 < length nets.old }
     requires numbers { (d : CaseState) → case_numbers (get_or (map case_state nets.old)

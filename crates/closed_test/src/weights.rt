@@ -32,7 +32,7 @@ use field_core::{List, NoMemory, Number};
 use fraction::Fraction;
 use std::alloc::Global;
 
-/// Tables of all sets are for this number of hypotheses at most.
+/// The most hypotheses that a table of all sets is for.
 pub const MOST_HYPOTHESES: usize = 16;
 
 /// The weight of each member of each set of the hypotheses of a case, of which there are at most 16; with 16 hypotheses it
@@ -45,7 +45,7 @@ pub struct WeightTable {
     ghost room: { length weights ≡ 2 ^ size * 16 },
 }
 
-/// Returns a list of zeros of this length, in exactly the memory that it needs.
+/// Returns a list of `count` zeros, in exactly the memory that it needs.
 fn zeros(alloc: Global, count: usize) -> Result<List<Fraction>, NoMemory>
     ensures { IfOk result (λ zeros. length zeros ≡ count) }
 {
@@ -54,7 +54,7 @@ fn zeros(alloc: Global, count: usize) -> Result<List<Fraction>, NoMemory>
     Ok(List::of(zeros))
 }
 
-/// Nets of a case, in this number, each with all hypotheses in.
+/// Returns `count` copies of the nets of a case, in each of which all hypotheses remain.
 fn load_nets(alloc: Global, case: &Case, count: usize) -> Result<Vec<CaseNet>, OpenFault>
     ensures count { IfOk result (λ nets. length nets.items ≡ count) }
     ensures opened { IfOk result (λ nets. (n : ℕ) (d : CaseState) → n < count
@@ -69,7 +69,7 @@ fn load_nets(alloc: Global, case: &Case, count: usize) -> Result<Vec<CaseNet>, O
     Ok(nets)
 }
 
-/// Returns why there is no table, if the opening fails: it belongs to the run of the set of all hypotheses, which is the first.
+/// Returns why there is no table if the opening fails. The fault is that of the set of all hypotheses, which is the first set.
 fn opening_fault(case: &Case, fault: OpenFault) -> ClosedFault
     requires few { length (content case.now).names ≤ 16 }
     requires fault { IsOpenFaultOf (content case.now) fault }
@@ -94,7 +94,7 @@ impl WeightTable {
     ghost use Rattle.closed_test.specs.ClosedFaults.{IsClosedFault};
     ghost use Rattle.closed_test.specs.WeightsView.{weights_size, weight_at};
 
-    /// Returns Zeros.
+    /// Returns a table of zeros for `size` hypotheses.
     fn empty(alloc: Global, size: usize) -> Result<WeightTable, NoMemory>
         requires { size ≤ 16 }
         ensures { IfOk result (λ t. weights_size t ≡ size) }
@@ -106,8 +106,8 @@ impl WeightTable {
 
     /// Returns the weights of all sets of a case.
     ///
-    /// There are none if there are more than 16 hypotheses. Unless out of memory, there are also none exactly if the written
-    /// run of some set is undefined. The fault then names the first such set in the order of sets.
+    /// It is refused with `TooMany` if there are more than 16 hypotheses. Else, unless out of memory, it is refused with `Wide`
+    /// exactly if the written run of some set is undefined. The fault then names the first such set in the order of sets.
     pub fn build(alloc: Global, case: &Case) -> Result<WeightTable, ClosedFault>
         ensures size { IfOk result (λ t. weights_size t ≡ length (content case.now).names) }
         ensures weights { IfOk result (λ t. AreIntersectionWeights (content case.now) (weight_at t)) }
@@ -138,7 +138,7 @@ impl WeightTable {
         self.size
     }
 
-    /// Returns the weight of `k` in a set, of which it is a member; a fraction that means nothing if it isn't. `k` is below 16.
+    /// Returns the weight of `k` in a set of which `k` is a member, and a fraction without meaning if it isn't. `k` is below 16.
     pub fn weight(&self, set: u32, k: usize) -> Fraction
         requires set { set < 2 ^ weights_size self.now }
         requires k { k < 16 }
@@ -158,7 +158,7 @@ impl WeightTable {
         self.weights.set(set as usize * MOST_HYPOTHESES + k, weight);
     }
 
-    /// Puts the weights of a set, whose nets these are: the levels of the hypotheses that are in. The other sets stay.
+    /// Puts the weights of a set, given its nets: they are the levels of the remaining hypotheses. The weights of other sets stay.
     pub(crate) fn put_row(&mut self, set: u32, nets: &CaseNet)
         requires set { set < 2 ^ weights_size self.old }
         requires size { case_size (case_state nets.now) ≡ weights_size self.old }

@@ -2,7 +2,7 @@
 use Rattle.std.specs.Prelude.{ℕ, get_or}
 use Rattle.discovery_bound.specs.declared.bounds.Bounds.{Bounds}
 
--- for how many hypotheses bounds are
+-- the number of hypotheses that bounds are for
 abbrev pub bounds_size : Bounds → ℕ
 bounds_size b = b.size
 

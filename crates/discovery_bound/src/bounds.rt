@@ -10,8 +10,7 @@ use case_model::{SetTable, dropped, holds};
 use field_core::{List, NoMemory};
 use std::alloc::Global;
 
-/// A bound for each set of some hypotheses, of which there are at most 16: a lower bound on the number of false
-/// hypotheses of the set.
+/// A lower bound on the number of false hypotheses in each set of at most 16 hypotheses.
 #[derive(Drop)]
 pub struct Bounds {
     size: usize,
@@ -60,10 +59,10 @@ impl Bounds {
     ghost use Rattle.case_model.specs.DiscoveryBound.{IsBound};
     ghost use Rattle.discovery_bound.specs.BoundsView.{bounds_size, bound_of};
 
-    /// Returns the bounds of all sets of `m` hypotheses, by any table for `m` hypotheses that says which sets are
-    /// rejected. The empty set counts as not rejected, whatever the table says of it.
+    /// Returns the bounds of all sets of `m` hypotheses, by any table for `m` hypotheses of which sets are rejected. The empty set
+    /// counts as not rejected, whatever the table answers for it.
     ///
-    /// The bound of a set is its size less the greatest size of a subset that isn't rejected.
+    /// The bound of a set is its size minus the greatest size of a subset that isn't rejected.
     pub fn build(alloc: Global, m: usize, closed: &SetTable) -> Result<Bounds, NoMemory>
         requires few { m ≤ 16 }
         requires table { table_size closed.now ≡ m }

@@ -1,7 +1,7 @@
 //! Bounds of the number of true discoveries in each set, by a table of answers.
 //!
-//! Proved: `Bounds::build`, `bounds` (by any table that says which sets are rejected, the size of each set less the
-//! greatest size of a subset that isn't).
+//! Proved of `Bounds::build`, by any table of which sets are rejected: the bound of a set is its size minus the greatest size of a
+//! subset that isn't rejected (`bounds`).
 #![tactic(auto)]
 
 mod bounds;

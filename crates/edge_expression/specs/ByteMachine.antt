@@ -36,7 +36,7 @@ next_letter letters.I = 108
 next_letter letters.L = 111
 next_letter letters.O = 110
 
--- what was read with that byte
+-- what is read after that byte
 abbrev pub with_letter : Letter → State
 with_letter letters.Backslash = Word letters.E
 with_letter letters.E = Word letters.P
@@ -46,33 +46,33 @@ with_letter letters.I = Word letters.L
 with_letter letters.L = Word letters.O
 with_letter letters.O = Epsilon
 
--- what was read with a byte that may begin a factor other than a decimal
+-- what is read after a byte that may begin a factor other than a decimal
 abbrev pub further : Class → Option State
 further classes.Backslash = Some (Word letters.Backslash)
 further classes.Open = Some Start
 further class = None
 
--- where a factor must follow, with what the byte begins of a decimal
+-- what is read after a byte at which a factor must begin, given the part of a decimal that the byte may begin
 abbrev pub operand_parts : Option DecimalPart → Class → Option State
 operand_parts (Some part) class = Some (Decimal part)
 operand_parts None classes.Blank = Some Operand
 operand_parts None class = further class
 
--- where a factor must follow
+-- what is read after a byte at which a factor must begin
 abbrev pub at_operand : ℕ → Option State
 at_operand b = operand_parts (decimal_byte parts.Start b) (class_of b)
 
--- where a sum begins, with what may be where a factor must follow
+-- what is read after a byte at which a sum begins, given what is read if a factor begins there
 abbrev pub start_or : Class → Option State → Option State
 start_or classes.Blank operand = Some Start
 start_or classes.Sign operand = Some Operand
 start_or class operand = operand
 
--- where a sum begins
+-- what is read after a byte at which a sum begins
 abbrev pub at_start : ℕ → Option State
 at_start b = start_or (class_of b) (at_operand b)
 
--- after a factor
+-- what is read after a factor and one byte more
 abbrev pub behind_factor : Class → Option State
 behind_factor classes.Blank = Some Factor
 behind_factor classes.Close = Some Factor
@@ -80,33 +80,33 @@ behind_factor classes.Sign = Some Operand
 behind_factor classes.Joint = Some Operand
 behind_factor class = further class
 
--- after part of a decimal, with one part more or none
+-- what is read after part of a decimal and one byte more, given the longer part, if the byte continues the decimal
 abbrev pub behind_parts : Option DecimalPart → Bool → Class → Option State
 behind_parts (Some longer) ends class = Some (Decimal longer)
 behind_parts None true class = behind_factor class
 behind_parts None false class = None
 
--- after part of a decimal
+-- what is read after part of a decimal and one byte more
 abbrev pub behind_part : DecimalPart → ℕ → Option State
 behind_part part b = behind_parts (decimal_byte part b) (ends_decimal part) (class_of b)
 
--- after `\epsilon`
+-- what is read after `\epsilon` and one byte more
 abbrev pub behind_epsilon : Class → Option State
 behind_epsilon classes.Caret = Some Caret
 behind_epsilon classes.Blank = Some Epsilon
 behind_epsilon class = behind_factor class
 
--- after a caret
+-- what is read after a caret and one byte more
 abbrev pub behind_caret : Class → Option State
 behind_caret classes.Blank = Some Caret
 behind_caret classes.Digit = Some Factor
 behind_caret class = None
 
--- after part of `\epsilon`
+-- what is read after part of `\epsilon` and one byte more
 abbrev pub behind_letter : Letter → ℕ → Option State
 behind_letter letter b = if b == next_letter letter then Some (with_letter letter) else None
 
--- what was read with one byte more, but for the parentheses that are open
+-- what is read after one byte more, but for the parentheses that are open
 abbrev pub next : State → ℕ → Option State
 next Start b = at_start b
 next Operand b = at_operand b
@@ -116,37 +116,37 @@ next Epsilon b = behind_epsilon (class_of b)
 next Caret b = behind_caret (class_of b)
 next Factor b = behind_factor (class_of b)
 
--- how many parentheses are open with one byte more, or nothing if it closes one and none is
+-- how many parentheses are open after one byte more, or nothing if it closes one and none is open
 abbrev pub opened : Class → ℕ → Option ℕ
 opened classes.Open n = Some (suc n)
 opened classes.Close zero = None
 opened classes.Close (suc n) = Some n
 opened class n = Some n
 
--- both, if there are both
+-- the state and the number of open parentheses, if there are both
 abbrev pub reached : Option State → Option ℕ → Option Reached
 reached (Some state) (Some n) = Some (record { state = state; depth = n })
 reached (Some state) None = None
 reached None n = None
 
--- what was read with one byte more, or nothing if no expression begins so
+-- what is read after one byte more, or nothing if no expression begins so
 unfoldable pub step : Reached → ℕ → Option Reached
 step r b = reached (next r.state b) (opened (class_of b) r.depth)
 
--- a factor may end here
+-- whether a factor may end here
 abbrev pub is_whole : State → Bool
 is_whole Factor = true
 is_whole Epsilon = true
 is_whole (Decimal part) = ends_decimal part
 is_whole state = false
 
--- an expression may end in the state, with this number of open parentheses
+-- whether an expression may end, given whether a factor may, with this number of open parentheses
 abbrev pub ends : Bool → ℕ → Bool
 ends true zero = true
 ends true (suc n) = false
 ends false n = false
 
--- an expression may end here
+-- whether an expression may end here
 unfoldable pub may_end : Reached → Bool
 may_end r = ends (is_whole r.state) r.depth
 

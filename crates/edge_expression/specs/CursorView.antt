@@ -65,7 +65,7 @@ HeadTaken heads.Epsilon old new = BeginsWord old × (new ≡ drop (min (length o
 HeadTaken (heads.Decimal text) old new = IsOtherThan 40 old × IsOtherThan 92 old
     × (text.now ≡ take (decimal_length old) old) × (new ≡ drop (decimal_length old) old)
 
--- what a front adds to the length of what is left, where that counts the calls to come: a parenthesis continues to a sum
+-- what a front adds to the length of what is left, by which the calls to come are counted: a parenthesis leads to a sum
 abbrev pub head_weight : Head → ℕ
 head_weight heads.Open = 3
 head_weight heads.Epsilon = 0
@@ -91,14 +91,14 @@ EndsExpression [] = Unit {0}
 EndsExpression (CloseToken ∷ ks) = Unit {0}
 EndsExpression (k ∷ ks) = ⊥
 
--- a term may
+-- a term may end before these tokens
 abbrev pub EndsTerm : List Token → Type 0
 EndsTerm [] = Unit {0}
 EndsTerm (CloseToken ∷ ks) = Unit {0}
 EndsTerm (SignToken sign ∷ ks) = Unit {0}
 EndsTerm (k ∷ ks) = ⊥
 
--- a factor may
+-- a factor may end before these tokens
 abbrev pub EndsFactor : List Token → Type 0
 EndsFactor (DecimalToken decimal ∷ ks) = ⊥
 EndsFactor (PowerToken power ∷ ks) = ⊥
@@ -107,7 +107,7 @@ EndsFactor ks = Unit {0}
 
 -- ---- what the evaluator gives
 
--- The result is this answer, and where that is a value, what is left spells these tokens.
+-- The result is this answer, and if it is a value, what is left spells these tokens.
 abbrev pub Evaluates : Result Polynomial ValueFault → List ℕ → Result (List Terms) ValueFault → List Token → Type 0
 Evaluates result left answer more = (map_value polynomial_terms result ≡ answer) × (is_ok result ≡ true → IsSpelt more left)
 
@@ -118,15 +118,15 @@ IsHead heads.Epsilon rest (Other (Epsilon power)) more = IsSpelt (power_tokens p
 IsHead heads.Open rest (Other (Parens inner)) more = IsSpelt (expression_tokens inner (CloseToken ∷ more)) rest
 IsHead head rest factor more = ⊥
 
--- on each expression, whatever follows it
+-- of each expression that the text spells, whatever follows it, the result is its value or its fault
 unfoldable pub SumGives : List ℕ → Result Polynomial ValueFault → List ℕ → Type 0
 SumGives old result new = (e : Expression) (more : List Token) → EndsExpression more
     → IsSpelt (expression_tokens e more) old → Evaluates result new (value e) more
 
--- on each term
+-- of each term that the text spells, whatever follows it, the result is its value or its fault
 unfoldable pub ProductGives : List ℕ → Result Polynomial ValueFault → List ℕ → Type 0
 ProductGives old result new = (t : Term) (more : List Token) → EndsTerm more → IsSpelt (term_tokens t more) old → Evaluates result new (term_value t) more
 
--- on each factor whose front is taken
+-- of each factor whose front was taken, whatever follows it, the result is its value or its fault
 unfoldable pub FactorGives : Head → List ℕ → Result Polynomial ValueFault → List ℕ → Type 0
 FactorGives head old result new = (f : Factor) (more : List Token) → EndsFactor more → IsHead head old f more → Evaluates result new (factor_value f) more

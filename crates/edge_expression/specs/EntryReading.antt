@@ -14,7 +14,7 @@ use Rattle.edge_expression.specs.EntryValues.{value}
 
 -- ---- depth
 
--- how many parentheses are open with one byte more
+-- how many parentheses are open after one byte more
 abbrev pub open_with : ℕ → ℕ → ℕ
 open_with b n = if b == 40 then suc n else if b == 41 then n - 1 else n
 
@@ -27,7 +27,7 @@ open_behind n (b ∷ bs) = open_behind (open_with b n) bs
 abbrev pub IsDeep : List ℕ → ℕ → Type 0
 IsDeep text n = (k : ℕ) × (k < n) × (32 < open_behind 0 (take (suc k) text))
 
--- there is none
+-- among the first n bytes there is no such parenthesis
 abbrev pub IsShallow : List ℕ → ℕ → Type 0
 IsShallow text n = (k : ℕ) → k < n → open_behind 0 (take (suc k) text) ≤ 32
 
@@ -37,7 +37,7 @@ IsShallow text n = (k : ℕ) → k < n → open_behind 0 (take (suc k) text) ≤
 abbrev pub IsTooDeep : List ℕ → Type 0
 IsTooDeep text = (IsExpression text × IsDeep text (length text)) ⊎ ((n : ℕ) × IsBadByte IsExpression text n × IsDeep text n)
 
--- it is an expression, or it is too deep, or else it has a first bad byte
+-- the text is an expression, or it is too deep, or else it has a first bad byte
 unfoldable pub IsScanned : List ℕ → Result (Unit {0}) ExprFault → Type 0
 IsScanned text (Ok x) = IsExpression text × IsShallow text (length text)
 IsScanned text (Err Depth) = IsTooDeep text

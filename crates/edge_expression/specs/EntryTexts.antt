@@ -37,7 +37,7 @@ terms_text is_first power (suc n) entry =
     if is_zero (terms_at entry power) then terms_text is_first (suc power) n entry
     else joined_term is_first power (terms_at entry power) ++ terms_text false (suc power) n entry
 
--- the coefficients of all powers below n are 0
+-- whether the coefficients of all powers below n are 0
 unfoldable pub are_zero_below : ℕ → List Terms → Bool
 are_zero_below zero entry = true
 are_zero_below (suc n) entry = are_zero_below n entry && is_zero (terms_at entry n)

@@ -14,7 +14,7 @@ use Rattle.edge_expression.specs.Expressions.{Times, Over, Beside, Factor, Numbe
 
 -- ---- fractions
 
--- neither part is above 10^18
+-- whether neither part is above 10^18
 abbrev pub is_short : Terms → Bool
 is_short t = is_within (10 ^ 18) t
 
@@ -26,19 +26,19 @@ short_of t = if is_short t then Ok t else Err Part
 unfoldable pub short : ℤ → ℤ → Result Terms ValueFault
 short n d = short_of (lowest_terms n d)
 
--- the sum of two fractions
+-- the sum of two fractions, if neither part is above 10^18
 abbrev pub sum : Terms → Terms → Result Terms ValueFault
 sum x y = short (x.num *ℤ y.den +ℤ y.num *ℤ x.den) (x.den *ℤ y.den)
 
--- their difference
+-- the difference of two fractions, if neither part is above 10^18
 abbrev pub difference : Terms → Terms → Result Terms ValueFault
 difference x y = short (x.num *ℤ y.den -ℤ y.num *ℤ x.den) (x.den *ℤ y.den)
 
--- their product
+-- the product of two fractions, if neither part is above 10^18
 abbrev pub product : Terms → Terms → Result Terms ValueFault
 product x y = short (x.num *ℤ y.num) (x.den *ℤ y.den)
 
--- their quotient
+-- the quotient of two fractions, if neither part is above 10^18
 abbrev pub quotient : Terms → Terms → Result Terms ValueFault
 quotient x y = short (x.num *ℤ y.den) (x.den *ℤ y.num)
 
@@ -102,7 +102,7 @@ abbrev pub decimal_entry : Option Terms → Result (List Terms) ValueFault
 decimal_entry None = Err Part
 decimal_entry (Some value) = short_of value >>= λ x. Ok (plain_entry x)
 
--- 1 for the power itself, and 0 for any other
+-- the coefficient of the power `k` in epsilon to the `power`: 1 if they are equal, and else 0
 abbrev pub unit_at : ℕ → ℕ → Terms
 unit_at power k = if k == power then record { num = pos 1; den = pos 1 } else zero_terms
 

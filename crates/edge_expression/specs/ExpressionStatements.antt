@@ -17,7 +17,7 @@ use Rattle.edge_expression.specs.EntryTexts.{entry_text}
 
 -- ---- the number that an expression means
 
--- a number with another one added or taken away
+-- a number with another one added or subtracted
 abbrev pub moved : Sign → Value → Value → Value
 moved Plus x y = x +ε y
 moved Minus x y = x -ε y

@@ -35,12 +35,12 @@ mutual
     Over : (divisor : Factor) (others : MoreFactors) → MoreFactors
     Beside : (factor : Further) (others : MoreFactors) → MoreFactors
 
-  -- what may be a factor
+  -- a factor: a decimal, or another one
   pub data Factor : Type 0 where
     Number : (decimal : Decimal) → Factor
     Other : (further : Further) → Factor
 
-  -- what may be a factor with no `*` before it
+  -- a factor that may follow another one without a `*` between them
   pub data Further : Type 0 where
     -- `\epsilon`, and perhaps a caret and a power
     Epsilon : (power : Option Power) → Further
@@ -75,28 +75,28 @@ abbrev mutual
   pub expression_tokens : Expression → List Token → List Token
   expression_tokens (Sum sign first others) rest = sign_tokens sign (term_tokens first (terms_tokens others rest))
 
-  -- the same of further terms
+  -- the tokens of further terms, and then these
   pub terms_tokens : MoreTerms → List Token → List Token
   terms_tokens NoTerm rest = rest
   terms_tokens (AndTerm sign term others) rest = SignToken sign ∷ term_tokens term (terms_tokens others rest)
 
-  -- of a term
+  -- the tokens of a term, and then these
   pub term_tokens : Term → List Token → List Token
   term_tokens (Product first others) rest = factor_tokens first (factors_tokens others rest)
 
-  -- of further factors
+  -- the tokens of further factors, and then these
   pub factors_tokens : MoreFactors → List Token → List Token
   factors_tokens NoFactor rest = rest
   factors_tokens (Times factor others) rest = TimesToken ∷ factor_tokens factor (factors_tokens others rest)
   factors_tokens (Over divisor others) rest = OverToken ∷ factor_tokens divisor (factors_tokens others rest)
   factors_tokens (Beside factor others) rest = further_tokens factor (factors_tokens others rest)
 
-  -- of a factor
+  -- the tokens of a factor, and then these
   pub factor_tokens : Factor → List Token → List Token
   factor_tokens (Number decimal) rest = DecimalToken decimal ∷ rest
   factor_tokens (Other further) rest = further_tokens further rest
 
-  -- of a factor that is not a decimal
+  -- the tokens of a factor that is not a decimal, and then these
   pub further_tokens : Further → List Token → List Token
   further_tokens (Epsilon power) rest = WordToken ∷ power_tokens power rest
   further_tokens (Parens inner) rest = OpenToken ∷ expression_tokens inner (CloseToken ∷ rest)

@@ -9,7 +9,7 @@ use text_lines::is_blank;
 pub enum Class {
     Digit,
     Sign,
-    /// What is between two factors.
+    /// What joins two factors, `*` or `/`.
     Joint,
     Caret,
     Open,

@@ -36,9 +36,9 @@ pub enum Letter {
 /// What was read of an expression, but for the parentheses that are open.
 #[derive(Clone, Copy)]
 pub enum State {
-    /// Nothing of a sum: a sign may be here, or else a factor.
+    /// Nothing of a sum: a sign or a factor may be next.
     Start,
-    /// What a factor must follow.
+    /// A sign or a joint: a factor must be next.
     Operand,
     /// Part of a decimal.
     Decimal(DecimalPart),
@@ -46,7 +46,7 @@ pub enum State {
     Word(Letter),
     /// The word `\epsilon`.
     Epsilon,
-    /// A caret: the digit of a power must follow.
+    /// A caret: the digit of a power must be next.
     Caret,
     /// A factor.
     Factor,
@@ -74,7 +74,7 @@ fn next_letter(letter: Letter) -> u8
     }
 }
 
-/// Returns what was read with that byte.
+/// Returns what is read after that byte.
 fn with_letter(letter: Letter) -> State
     ensures { result ≡ with_letter letter }
 {
@@ -89,7 +89,7 @@ fn with_letter(letter: Letter) -> State
     }
 }
 
-/// Returns what was read with a byte that may begin a factor other than a decimal.
+/// Returns what is read after a byte that may begin a factor other than a decimal.
 fn further(class: Class) -> Option<State>
     ensures { result ≡ further class }
 {
@@ -100,7 +100,7 @@ fn further(class: Class) -> Option<State>
     }
 }
 
-/// Returns what was read with a byte where a factor must follow.
+/// Returns what is read after a byte at which a factor must begin.
 fn at_operand(byte: u8) -> Option<State>
     ensures { result ≡ at_operand byte }
 {
@@ -111,7 +111,7 @@ fn at_operand(byte: u8) -> Option<State>
     }
 }
 
-/// Returns what was read with a byte where a sum begins.
+/// Returns what is read after a byte at which a sum begins.
 fn at_start(byte: u8) -> Option<State>
     ensures { result ≡ at_start byte }
 {
@@ -122,7 +122,7 @@ fn at_start(byte: u8) -> Option<State>
     }
 }
 
-/// Returns what was read with a byte after a factor.
+/// Returns what is read after a factor and one byte more.
 fn behind_factor(class: Class) -> Option<State>
     ensures { result ≡ behind_factor class }
 {
@@ -133,7 +133,7 @@ fn behind_factor(class: Class) -> Option<State>
     }
 }
 
-/// Returns what was read with a byte after part of a decimal.
+/// Returns what is read after part of a decimal and one byte more.
 fn behind_part(part: DecimalPart, byte: u8) -> Option<State>
     ensures { result ≡ behind_part part byte }
 {
@@ -144,7 +144,7 @@ fn behind_part(part: DecimalPart, byte: u8) -> Option<State>
     }
 }
 
-/// Returns what was read with a byte after `\epsilon`.
+/// Returns what is read after `\epsilon` and one byte more.
 fn behind_epsilon(class: Class) -> Option<State>
     ensures { result ≡ behind_epsilon class }
 {
@@ -155,7 +155,7 @@ fn behind_epsilon(class: Class) -> Option<State>
     }
 }
 
-/// Returns what was read with a byte after a caret.
+/// Returns what is read after a caret and one byte more.
 fn behind_caret(class: Class) -> Option<State>
     ensures { result ≡ behind_caret class }
 {
@@ -166,7 +166,7 @@ fn behind_caret(class: Class) -> Option<State>
     }
 }
 
-/// Returns what was read with a byte after part of `\epsilon`.
+/// Returns what is read after part of `\epsilon` and one byte more.
 fn behind_letter(letter: Letter, byte: u8) -> Option<State>
     ensures { result ≡ behind_letter letter byte }
 {
@@ -177,7 +177,7 @@ fn behind_letter(letter: Letter, byte: u8) -> Option<State>
     }
 }
 
-/// Returns what was read with one byte more, but for the parentheses that are open.
+/// Returns what is read after one byte more, but for the parentheses that are open.
 fn next(state: State, byte: u8) -> Option<State>
     ensures { result ≡ next state byte }
 {
@@ -205,7 +205,7 @@ fn opened(class: Class, depth: u32) -> Option<u32>
     }
 }
 
-/// Returns what was read with one byte more, or nothing if no expression begins so.
+/// Returns what is read after one byte more, or nothing if no expression begins so.
 #[tactic(auto, unfolding(crate::specs::ByteMachine::step))]
 pub fn step(reached: Reached, byte: u8) -> Option<Reached>
     requires { reached.depth ≤ 32 }

@@ -48,7 +48,7 @@ impl<'a> Cursor<'a> {
         }
     }
 
-    /// Whether a byte is next, which it then takes.
+    /// Whether `byte` is next; if so, takes it.
     fn take_byte(&mut self, byte: u8) -> bool
         ensures { MatchBool result (after_blanks self.old.rest.now ≡ byte ∷ self.new.rest.now)
             (IsOtherThan byte (after_blanks self.old.rest.now) × (self.new.rest.now ≡ self.old.rest.now)) }
@@ -62,7 +62,7 @@ impl<'a> Cursor<'a> {
         }
     }
 
-    /// Takes a sign, if it is next: what it does with the term after it.
+    /// Takes a sign, if one is next, and returns what the sign does with the term after it.
     pub fn take_sign(&mut self) -> Option<Operation>
         ensures { SignTaken result self.old.rest.now self.new.rest.now }
     {
@@ -75,7 +75,8 @@ impl<'a> Cursor<'a> {
         }
     }
 
-    /// Takes what joins a further factor to those before it, if there is a further one. A `*` that is left out takes no byte.
+    /// Takes what joins a further factor to those before it, and returns it, if there is a further factor. For a `*` that is left out
+    /// no byte is taken.
     pub fn take_joint(&mut self) -> Option<Operation>
         ensures { JointTaken result self.old.rest.now self.new.rest.now }
     {
@@ -91,7 +92,7 @@ impl<'a> Cursor<'a> {
         }
     }
 
-    /// Takes the front of a factor.
+    /// Takes the front of a factor, and returns it.
     pub fn take_head(&mut self) -> Head<'a>
         ensures { HeadTaken result (after_blanks self.old.rest.now) self.new.rest.now }
     {
@@ -114,7 +115,7 @@ impl<'a> Cursor<'a> {
         }
     }
 
-    /// Takes a caret and a power, if they are next. The power is 1 if they are not.
+    /// Takes a caret and a power, if they are next, and returns the power, which is 1 if they are not.
     pub fn take_power(&mut self) -> usize
         ensures { PowerTaken result self.old.rest.now self.new.rest.now }
     {

@@ -1,4 +1,4 @@
-//! Edge expressions from left to right. What is stated of a text holds if it is an expression.
+//! The evaluation of edge expressions, from left to right. The clauses state something only of texts that are expressions.
 ghost use Rattle.std.specs.Prelude.{◌≡◌, ◌≤◌, map, length, IfOk};
 ghost use Rattle.numerals.specs.Numeral.{body_text};
 ghost use Rattle.field_core.specs.View.{terms};
@@ -24,7 +24,7 @@ fn decimal(text: &[u8]) -> Result<Polynomial, ValueFault>
     Ok(Polynomial::constant(&short))
 }
 
-/// Returns the value of a sum, which the cursor takes.
+/// Takes a sum from the cursor, and returns its value.
 #[cycle(evaluate)]
 fn sum(cursor: &mut Cursor) -> Result<Polynomial, ValueFault>
     ensures value { SumGives cursor.old.rest.now result cursor.new.rest.now }
@@ -40,7 +40,7 @@ fn sum(cursor: &mut Cursor) -> Result<Polynomial, ValueFault>
     Ok(sum)
 }
 
-/// Returns the value of a product, which the cursor takes.
+/// Takes a product from the cursor, and returns its value.
 #[cycle(evaluate)]
 fn product(cursor: &mut Cursor) -> Result<Polynomial, ValueFault>
     ensures value { ProductGives cursor.old.rest.now result cursor.new.rest.now }
@@ -56,7 +56,7 @@ fn product(cursor: &mut Cursor) -> Result<Polynomial, ValueFault>
     Ok(product)
 }
 
-/// Returns the value of a factor, whose front is taken and whose rest the cursor takes.
+/// Takes the rest of a factor, whose front is taken already, from the cursor, and returns the factor's value.
 #[cycle(evaluate)]
 fn factor(cursor: &mut Cursor, head: Head) -> Result<Polynomial, ValueFault>
     ensures value { FactorGives head.entry cursor.old.rest.now result cursor.new.rest.now }

@@ -20,7 +20,7 @@ pub struct Polynomial {
     coefficients: [ShortFraction; 5],
 }
 
-/// What joins two polynomials.
+/// An operation on two polynomials.
 #[derive(Clone, Copy)]
 pub enum Operation {
     Add,
@@ -44,7 +44,7 @@ impl Polynomial {
         Polynomial::of([ShortFraction::zero(); 5])
     }
 
-    /// Returns a number.
+    /// Returns a number as a polynomial.
     pub fn constant(value: &ShortFraction) -> Polynomial
         ensures { polynomial_terms result ≡ plain_entry (short_terms value.now) }
     {
@@ -57,7 +57,7 @@ impl Polynomial {
         ])
     }
 
-    /// Returns a power of epsilon.
+    /// Returns a power of epsilon, or `Degree` if the power is above 4.
     #[tactic(auto, unfolding(crate::specs::EntryValues::power_value, crate::specs::EntryValues::coefficients))]
     pub fn power(power: usize) -> Result<Polynomial, ValueFault>
         ensures { map_value polynomial_terms result ≡ power_value power }
@@ -107,7 +107,7 @@ impl Polynomial {
         power
     }
 
-    /// Returns the product with another one.
+    /// Returns the product with another polynomial, or the first fault.
     #[tactic(auto, unfolding(crate::specs::EntryValues::times))]
     fn times(&self, other: &Polynomial) -> Result<Polynomial, ValueFault>
         ensures { map_value polynomial_terms result ≡ times (polynomial_terms self.now) (polynomial_terms other.now) }
@@ -118,7 +118,7 @@ impl Polynomial {
         coefficients(Operation::Multiply, self, other)
     }
 
-    /// Returns the quotient by another one, which must be a number other than 0.
+    /// Returns the quotient by another polynomial, or the first fault; a divisor that isn't a number, or is 0, is one.
     #[tactic(auto, unfolding(crate::specs::EntryValues::over))]
     fn over(&self, other: &Polynomial) -> Result<Polynomial, ValueFault>
         ensures { map_value polynomial_terms result ≡ over (polynomial_terms self.now) (polynomial_terms other.now) }
@@ -132,7 +132,7 @@ impl Polynomial {
         coefficients(Operation::Divide, self, other)
     }
 
-    /// Returns the polynomial, added to 0 or taken away from it.
+    /// Returns the polynomial after a sign: added to 0, or subtracted from it.
     #[tactic(auto, unfolding(crate::specs::EntryView::applied))]
     pub fn signed(&self, sign: Operation) -> Result<Polynomial, ValueFault>
         ensures { map_value polynomial_terms result ≡ applied sign zero_coefficients (polynomial_terms self.now) }
@@ -146,7 +146,7 @@ impl Polynomial {
         }
     }
 
-    /// Returns the polynomial with another one added, taken away, multiplied or divided.
+    /// Returns the result of an operation on this polynomial and another one, or the first fault.
     #[tactic(auto, unfolding(crate::specs::EntryView::applied, crate::specs::EntryValues::joined))]
     pub fn apply(&self, operation: Operation, other: &Polynomial) -> Result<Polynomial, ValueFault>
         ensures { map_value polynomial_terms result ≡ applied operation (polynomial_terms self.now) (polynomial_terms other.now) }
@@ -159,7 +159,7 @@ impl Polynomial {
     }
 }
 
-/// Returns 1 for the power itself, and 0 for any other.
+/// Returns the coefficient at `at` of epsilon to the `power`: 1 if they are equal, and else 0.
 fn unit_at(power: usize, at: usize) -> ShortFraction
     ensures { short_terms result ≡ unit_at power at }
 {
@@ -170,7 +170,7 @@ fn unit_at(power: usize, at: usize) -> ShortFraction
     }
 }
 
-/// Returns the sum of the products that make a power, by ascending power of the first factor.
+/// Returns the coefficient of `power` in a product: the sum of products of coefficients, by ascending power of the first factor.
 fn product_sum(x: &Polynomial, y: &Polynomial, power: usize) -> Result<ShortFraction, ValueFault>
     requires { power ≤ 4 }
     ensures { map_value short_terms result ≡ product_sum (polynomial_terms x.now) (polynomial_terms y.now) power (suc power) }
@@ -183,7 +183,7 @@ fn product_sum(x: &Polynomial, y: &Polynomial, power: usize) -> Result<ShortFrac
     Ok(sum)
 }
 
-/// Returns the coefficient of a power.
+/// Returns the coefficient of `power` in the result of an operation.
 fn coefficient(
     operation: Operation,
     x: &Polynomial,
@@ -202,7 +202,7 @@ fn coefficient(
     }
 }
 
-/// Returns all coefficients.
+/// Returns all coefficients of the result of an operation, or the first fault, by ascending power.
 #[tactic(auto, unfolding(crate::specs::EntryValues::coefficients))]
 fn coefficients(
     operation: Operation,

@@ -22,7 +22,7 @@ fn put_power(out: &mut List<u8>, power: usize) -> Result<(), NoMemory>
     out.push(b'0' + power as u8)
 }
 
-/// Appends what is before a power of epsilon.
+/// Appends the coefficient before a power of epsilon and `*`, or nothing if the coefficient is 1.
 fn put_factor(out: &mut List<u8>, coefficient: &Fraction) -> Result<(), NoMemory>
     ensures put { OnOk result (out.new ≡ out.old ++ factor_text (terms coefficient.now)) }
     ensures begun { OnErr result (IsBegun out.old out.new (factor_text (terms coefficient.now))) }

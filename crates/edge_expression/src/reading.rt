@@ -7,7 +7,7 @@ use crate::evaluate::expression_value;
 use crate::scan::scan;
 use case_model::Entry;
 
-/// Returns the entry of an edge expression, or the first fault of a text. It takes no memory.
+/// Returns the entry of an edge expression, or the first fault of the text. It takes no memory.
 pub fn parse(text: &[u8]) -> Result<Entry, ExprFault>
     ensures found { IfOk result (IsEntryText text.now) }
     ensures fault { IfErr result (IsExprFault text.now) }

@@ -42,7 +42,7 @@ impl ShortFraction {
         }
     }
 
-    /// Returns the same fraction, if its parts are short.
+    /// Returns a fraction as a `ShortFraction`, or `Part` if a part is above 10^18.
     #[tactic(auto, unfolding(crate::specs::EntryValues::short_of))]
     pub fn of(value: Fraction) -> Result<ShortFraction, ValueFault>
         ensures { map_value short_terms result ≡ short_of (terms value) }
@@ -54,7 +54,7 @@ impl ShortFraction {
         }
     }
 
-    /// Returns what an operation made, if its parts are short.
+    /// Returns the result of an operation as a `ShortFraction`, or `Part` if it was refused or a part is above 10^18.
     fn made(made: Result<Fraction, TooWide>) -> Result<ShortFraction, ValueFault>
         ensures { map_value short_terms result ≡ made_short (ok_map terms made) }
     {

@@ -46,7 +46,7 @@ p_words ps = codes "p" ∷ map number_word ps
 abbrev pub share_words : Ratio → Words
 share_words share = codes "component" ∷ number_word share ∷ []
 
--- its weights
+-- the weights of a component
 abbrev pub weights_words : List Ratio → Words
 weights_words weights = codes "weights" ∷ map number_word weights
 
@@ -81,7 +81,7 @@ abbrev pub table_lines : List (List ℕ) → ℕ → List (List Ratio) → List 
 table_lines names place [] = []
 table_lines names place (entry ∷ entries) = edge_lines names place entry ++ table_lines names (place + 1) entries
 
--- the share of a component, which isn't written of one that is alone
+-- the share of a component, which isn't written if the component is alone
 abbrev pub share_lines : Bool → Ratio → List Words
 share_lines alone share = if alone then [] else share_words share ∷ []
 

@@ -16,11 +16,11 @@ use Rattle.edge_text.specs.Grammar.{Words, IsAlphaLine, IsNamesLine, IsPLine, Is
 use Rattle.edge_text.specs.Places.{cases}
 use Rattle.edge_text.specs.WordReading.{number, numbers, given, count, shares, first_step, arrival}
 
--- a text denotes what its lines say
+-- a text denotes a draft exactly if its lines are a document of this draft
 abbrev pub TextsSayTheirLines : Type 0
 TextsSayTheirLines = (bytes : List ℕ) (draft : Draft) → IsText bytes draft ↔ IsDocument document (texts_seen (rows_of bytes)) draft
 
--- from place to place the same draft is read as by the form, or the same fault on the same line
+-- reading from place to place gives the same draft as reading by the form, or the same fault on the same line
 abbrev pub PlacesAreOfTheForm : Type 0
 PlacesAreOfTheForm = (rows : List Row) (end : ℕ) → reading_by_places cases Alpha rows end ≡ reading kinds document (texts_seen rows) end
 
@@ -28,11 +28,11 @@ PlacesAreOfTheForm = (rows : List Row) (end : ℕ) → reading_by_places cases A
 abbrev pub TextsCanEnd : Type 0
 TextsCanEnd = (bytes : List ℕ) (number : ℕ) → IsFirstFault bytes number Ended → BeginsDocument document (texts_seen (rows_of bytes))
 
--- a kind of line is read as the lines of a relation, which say the same
+-- a line is read as one of this kind, with what it says, exactly if the relation holds of the line and of that
 abbrev pub IsReadAs : {A : Type 0} → Leaf (List ℕ) LineKind A → (List ℕ → A → Type 0) → Type 0
 IsReadAs {A} kind Is = (line : List ℕ) (said : A) → (kind line ≡ Some (Ok said)) ↔ Is line said
 
--- `alpha`, `hypotheses`, `p`, `component` and `weights`
+-- of the lines `alpha`, `hypotheses`, `p`, `component` and `weights`
 pub record LinesOfNumbersAreRead : Type 0 where
   pub alpha : IsReadAs (behind (codes "alpha") number) IsAlphaLine
   pub names : IsReadAs (behind (codes "hypotheses") (λ words. Ok words)) IsNamesLine
@@ -40,11 +40,11 @@ pub record LinesOfNumbersAreRead : Type 0 where
   pub share : IsReadAs (behind (codes "component") number) IsShareLine
   pub weights : IsReadAs (behind (codes "weights") numbers) IsWeightsLine
 
--- `edge`
+-- of the lines `edge`
 abbrev pub EdgesAreRead : Type 0
 EdgesAreRead = (names : Words) → IsReadAs (edge_line names) (IsEdgeLine names)
 
--- `stages`, `spend`, `table` and `arrive`, for a hypothesis of this name
+-- of the lines `stages`, `spend`, `table` and `arrive`, for a hypothesis of this name
 pub record StageLinesAreRead (names : Words) (name : List ℕ) : Type 0 where
   pub count : IsReadAs (behind (codes "stages") count) IsStagesLine
   pub spend : IsReadAs (behind (codes "spend") (shares name)) (IsSpendLine name)

@@ -82,11 +82,11 @@ IsWeightsLine line values = IsLineOf (codes "weights") line (λ words. AreNumber
 abbrev pub IsEdgeLine : List (List ℕ) → List ℕ → DraftEdge → Type 0
 IsEdgeLine names line edge = IsLineOf (codes "edge") line (λ words. IsEdge names line words edge)
 
--- 1 to 9 digits that write this number
+-- 1 to 9 digits that denote this number
 abbrev pub IsWholeNumber : List ℕ → ℕ → Type 0
 IsWholeNumber word number = WritesNumber 9 word number
 
--- one such number
+-- one word of 1 to 9 digits, which denotes this number
 pub record IsCount (words : Words) (count : ℕ) : Type 0 where
   pub word : List ℕ
   pub alone : words ≡ word ∷ []

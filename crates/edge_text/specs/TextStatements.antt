@@ -34,8 +34,7 @@ TextsSayOrFail = (bytes : List ℕ) → ((d : Draft) × IsText bytes d) ⊎ ((n 
 abbrev pub TextsDontSayAndFail : Type 0
 TextsDontSayAndFail = (bytes : List ℕ) (d : Draft) (n : ℕ) (kind : LineKind) → IsText bytes d → ¬ IsFirstFault bytes n kind
 
--- the first fault of a text is at the first line with which no document continues; or, if the lines begin some document and are none, after the last
--- line
+-- the first fault of a text is in the first line with which no document continues; or, if the lines only begin a document, after the last line
 abbrev pub FirstFaultsEndDocuments : Type 0
 FirstFaultsEndDocuments =
     (bytes : List ℕ) (number : ℕ) (kind : LineKind) → IsFirstFault bytes number kind →
@@ -72,14 +71,14 @@ CasesHaveNoFault = (bytes : List ℕ) (c : Case) (fault : TextFault) → IsCaseO
 abbrev pub TextsHaveEntriesOrFaults : Type 0
 TextsHaveEntriesOrFaults = (text : List ℕ) → ((entry : List Ratio) × IsEntryText text entry) ⊎ ((fault : ExprFault) × IsExprFault text fault)
 
--- of one entry at most
+-- a text is an expression of one entry at most
 abbrev pub TextsHaveOneEntry : Type 0
 TextsHaveOneEntry = (text : List ℕ) (e f : List Ratio) → IsEntryText text e → IsEntryText text f → e ≡ f
 
--- it has one fault at most
+-- a text has one fault at most
 abbrev pub TextsHaveOneExprFault : Type 0
 TextsHaveOneExprFault = (text : List ℕ) (f g : ExprFault) → IsExprFault text f → IsExprFault text g → f ≡ g
 
--- a text of an entry has no fault
+-- a text that is an expression of an entry has no fault
 abbrev pub EntriesHaveNoFault : Type 0
 EntriesHaveNoFault = (text : List ℕ) (entry : List Ratio) (fault : ExprFault) → IsEntryText text entry → ¬ IsExprFault text fault

@@ -71,15 +71,15 @@ edge names line words =
     found_or (position_of ends.1 names) UnknownName (λ to.
     and_then (entry (behind_words 3 line)) (λ weight. Ok (record { from = from; to = to; entry = weight })))))
 
--- 0 to 9
+-- whether a byte is a digit, 0 to 9
 abbrev pub is_digit : ℕ → Bool
 is_digit b = nat_le 48 b && nat_le b 57
 
--- 1 to 9 digits
+-- whether a word is 1 to 9 digits
 unfoldable pub is_whole : List ℕ → Bool
 is_whole word = list_all is_digit word && (nat_lt 0 (length word) && nat_le (length word) 9)
 
--- the whole number that 1 to 9 digits write
+-- the whole number that 1 to 9 digits denote
 abbrev pub whole : List ℕ → Result ℕ LineKind
 whole word = if is_whole word then Ok (digits_value 10 word) else Err Whole
 

@@ -23,8 +23,8 @@ pub fn texts_say_or_fail()
     ensures apart { TextsDontSayAndFail }
 {}
 
-/// The first fault of a text is exactly where no document continues. This is at the first line with which none does. If the
-/// lines are not a document yet, it is after the last line.
+/// The first fault of a text is in exactly the first line with which no document continues; if the lines only begin a
+/// document, it is after the last line.
 pub fn first_faults_end_documents()
     ensures there { FirstFaultsEndDocuments }
     ensures line { WhereNoneGoesOnIsFault }
@@ -39,7 +39,7 @@ pub fn documents_are_read_by_places()
     ensures end { TextsCanEnd }
 {}
 
-/// A line of each kind is read as what it says by its relation, and no other line is read as that.
+/// A line is read as a line of a kind, with what it says, exactly if the relation of this kind holds of the line and of that.
 pub fn lines_are_read()
     ensures numbers { LinesOfNumbersAreRead }
     ensures edges { EdgesAreRead }
@@ -54,8 +54,8 @@ pub fn texts_have_one_reading()
     ensures apart { CasesHaveNoFault }
 {}
 
-/// The canonical text of a case denotes that case. Cases of another content have another one, and the case that is read of a
-/// canonical text has that canonical text.
+/// The canonical text of a case denotes that case. Cases with another content have another canonical text, and the case that
+/// is read from a canonical text has this text as its canonical one.
 pub fn canonical_texts_read_back()
     ensures back { CanonicalTextsReadBack }
     ensures apart { CanonicalTextsTellCasesApart }

@@ -10,10 +10,10 @@
 //!   - `documents_are_read_by_places`: a text denotes what its lines say by the form (`said`). The reader goes from place to
 //!     place, one line at a time, and takes the same draft or reports the same fault on the same line (`places`). Some document
 //!     begins with each text that only ends too early (`end`).
-//!   - `lines_are_read`: a line of each kind is read as what it says by its relation, and no other line is
-//!     (`specs/Grammar.antt`).
+//!   - `lines_are_read`: a line is read as a line of a kind, with what it says, exactly if the relation of this kind in
+//!     `specs/Grammar.antt` holds.
 //!   - A text denotes at most one draft and has at most one first fault. It has one of the two, never both.
-//!   - The first fault is exactly where no document continues.
+//!   - The first fault is in exactly the first line with which no document continues, or after the last line.
 //!   - `canonical_texts_read_back`: the canonical text reads as the same case (`back`), distinguishes cases (`apart`), and is
 //!     the canonical text of what is read (`again`).
 //! - `expressions_are_decided`: a text is an expression of one entry, or has one fault, never both.

@@ -51,7 +51,7 @@ fn unexpected(line: &Line) -> TextFault
     TextFault::Line(line.number, LineKind::Unexpected)
 }
 
-/// Returns the share of a component that is alone.
+/// Returns 1, the share of a component that is alone.
 fn one() -> Fraction
     ensures { result ≡ one }
 {
@@ -86,7 +86,7 @@ impl Place {
         }
     }
 
-    /// Returns the draft of a text that ends here, or the fault that it ends too early.
+    /// Returns the draft of a text that ends at this place, or the fault that it ends too early.
     ///
     /// `end` is the number of the line that would follow.
     pub fn whole(self, end: usize) -> Result<Draft, TextFault>
@@ -267,7 +267,7 @@ fn spends(alloc: Global, draft: SoFar, stages: DraftStages, line: &Line) -> Resu
     Ok(Place::Steps(draft, stages, steps))
 }
 
-/// Returns the first step of a table, alone.
+/// Returns the list of the first step of a table.
 fn first_steps(
     alloc: Global,
     line: &Line,

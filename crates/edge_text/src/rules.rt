@@ -69,7 +69,7 @@ pub fn given(alloc: Global, line: &Line, words: Words) -> Result<List<Option<Fra
     Ok(filled(alloc, values.as_slice())?)
 }
 
-/// Returns the same numbers, each in a place that isn't empty.
+/// Returns the places of a draft that these p-values fill.
 fn filled(alloc: Global, values: &[Fraction]) -> Result<List<Option<Fraction>>, NoMemory>
     ensures { IfOk result (λ p. p ≡ map Some values.now) }
 {
@@ -126,7 +126,7 @@ pub fn count(line: &Line, words: Words) -> Result<u64, TextFault>
     whole(line, digits)
 }
 
-/// Returns the fractions after this name.
+/// Returns the fractions of a line `spend`, which must name this hypothesis.
 pub fn shares(
     alloc: Global,
     line: &Line,
@@ -144,7 +144,7 @@ pub fn shares(
     numbers(alloc, line, Words::new(found.shares))
 }
 
-/// Returns the step of these numerals.
+/// Returns the step of a table that these numerals denote.
 pub fn step_of(
     alloc: Global,
     line: &Line,
@@ -158,7 +158,7 @@ pub fn step_of(
     Ok(SpendStep { from, levels })
 }
 
-/// Returns the first step of a table, after this name.
+/// Returns the step of a line `table`, which must name this hypothesis.
 pub fn first_step(
     alloc: Global,
     line: &Line,
@@ -176,7 +176,7 @@ pub fn first_step(
     step_of(alloc, line, found.from, found.levels)
 }
 
-/// Returns the p-value that arrived.
+/// Returns the p-value that arrived, from the words after the first word of a line `arrive`.
 pub fn arrival(line: &Line, words: Words, draft: &SoFar) -> Result<Arrival, TextFault>
     ensures { Gives line.now.number (arrival draft.now.names (words_of words.entry)) result }
 {

@@ -64,7 +64,7 @@ impl SoFar {
         }
     }
 
-    /// Whether this is the name at a position.
+    /// Whether there is a name at the position `at`, and it is this one.
     pub fn is_name(&self, at: usize, name: &[u8]) -> bool
         ensures { result ≡ is_due name.now (slice_get self.now.names at) }
     {

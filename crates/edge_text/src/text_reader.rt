@@ -9,8 +9,8 @@ use crate::draft_lines::draft;
 use case_model::{Case, CaseFault, Refused};
 use std::alloc::Global;
 
-/// Returns the case that a text denotes, or the first line that isn't allowed in a text, or else the error in the draft; or
-/// `NoMemory`.
+/// Returns the case that a text denotes. It is refused with the first line that isn't allowed at its place, or else with the
+/// first error in the draft, or with `NoMemory`.
 ///
 /// A text has the lines `alpha N`, `hypotheses NAME..`, perhaps `p N..` (one numeral or more), and then the blocks of the
 /// components. Either there is one block that begins with `weights N..`, whose share is 1. Or there are one or more that each

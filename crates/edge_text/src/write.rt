@@ -30,7 +30,7 @@ use field_core::{List, NoMemory, Number, Text};
 use fraction::Fraction;
 use std::alloc::Global;
 
-/// Appends the level.
+/// Appends the line of the level.
 fn put_alpha(text: &mut List<u8>, alpha: &Fraction) -> Result<(), NoMemory>
     ensures { OnOk result (text.new ≡ text.old ++ line_of (alpha_words alpha.now)) }
 {
@@ -39,7 +39,7 @@ fn put_alpha(text: &mut List<u8>, alpha: &Fraction) -> Result<(), NoMemory>
     text.push(b'\n')
 }
 
-/// Appends the names.
+/// Appends the line of the names.
 fn put_hypotheses(text: &mut List<u8>, names: &[Text]) -> Result<(), NoMemory>
     ensures { OnOk result (text.new ≡ text.old ++ line_of (names_words names.now)) }
 {
@@ -48,7 +48,7 @@ fn put_hypotheses(text: &mut List<u8>, names: &[Text]) -> Result<(), NoMemory>
     text.push(b'\n')
 }
 
-/// Appends the p-values of hypotheses.
+/// Appends the line of the p-values of hypotheses.
 fn put_p_values(text: &mut List<u8>, p_values: &[Fraction]) -> Result<(), NoMemory>
     ensures { OnOk result (text.new ≡ text.old ++ line_of (p_words p_values.now)) }
 {
@@ -57,7 +57,7 @@ fn put_p_values(text: &mut List<u8>, p_values: &[Fraction]) -> Result<(), NoMemo
     text.push(b'\n')
 }
 
-/// Appends the share of a component.
+/// Appends the line of the share of a component.
 fn put_share(text: &mut List<u8>, share: &Fraction) -> Result<(), NoMemory>
     ensures { OnOk result (text.new ≡ text.old ++ line_of (share_words share.now)) }
 {
@@ -66,7 +66,7 @@ fn put_share(text: &mut List<u8>, share: &Fraction) -> Result<(), NoMemory>
     text.push(b'\n')
 }
 
-/// Appends the share of a component, unless it is alone.
+/// Appends the line of the share of a component, unless the component is alone.
 fn put_share_unless(text: &mut List<u8>, alone: bool, share: &Fraction) -> Result<(), NoMemory>
     ensures { OnOk result (text.new ≡ text.old ++ text_of (share_lines alone share.now)) }
 {
@@ -76,7 +76,7 @@ fn put_share_unless(text: &mut List<u8>, alone: bool, share: &Fraction) -> Resul
     put_share(text, share)
 }
 
-/// Appends the weights of a component.
+/// Appends the line of the weights of a component.
 fn put_weights(text: &mut List<u8>, weights: &[Fraction]) -> Result<(), NoMemory>
     ensures { OnOk result (text.new ≡ text.old ++ line_of (weights_words weights.now)) }
 {
@@ -85,7 +85,7 @@ fn put_weights(text: &mut List<u8>, weights: &[Fraction]) -> Result<(), NoMemory
     text.push(b'\n')
 }
 
-/// Appends an edge between two hypotheses.
+/// Appends the line of an edge between two hypotheses.
 fn put_edge(
     text: &mut List<u8>,
     names: &[Text],
@@ -105,7 +105,7 @@ fn put_edge(
     text.push(b'\n')
 }
 
-/// Appends the edge at a place of a table, row by row, if it isn't 0.
+/// Appends the line of the edge at a place of a table, row by row, if the edge isn't 0.
 #[tactic(auto, unfolding(crate::specs::CanonicalText::edge_lines))]
 fn put_edge_if_any(
     text: &mut List<u8>,
@@ -122,7 +122,7 @@ fn put_edge_if_any(
     put_edge(text, names, place / names.len(), place % names.len(), entry)
 }
 
-/// Appends the edges of a table that aren't 0.
+/// Appends the lines of the edges of a table that aren't 0.
 fn put_edges(text: &mut List<u8>, names: &[Text], table: &[Entry]) -> Result<(), NoMemory>
     requires { length table.now ≡ length names.now * length names.now }
     ensures { OnOk result (text.new ≡ text.old ++ text_of (table_lines names.now 0 table.now)) }
@@ -133,7 +133,7 @@ fn put_edges(text: &mut List<u8>, names: &[Text], table: &[Entry]) -> Result<(),
     Ok(())
 }
 
-/// Appends a component.
+/// Appends the lines of a component.
 #[tactic(auto, unfolding(crate::specs::CanonicalText::block_lines))]
 fn put_block(
     text: &mut List<u8>,
@@ -150,7 +150,7 @@ fn put_block(
     put_edges(text, case.names(), case.edges(component))
 }
 
-/// Appends the components.
+/// Appends the lines of the components.
 #[tactic(auto, unfolding(crate::specs::CanonicalText::blocks_lines))]
 fn put_blocks(text: &mut List<u8>, case: &Case) -> Result<(), NoMemory>
     ensures { OnOk result (text.new ≡ text.old ++ text_of (blocks_lines (content case.now).names (content case.now).components)) }
@@ -162,7 +162,7 @@ fn put_blocks(text: &mut List<u8>, case: &Case) -> Result<(), NoMemory>
     Ok(())
 }
 
-/// Appends the p-values of hypotheses, if there are some.
+/// Appends the line of the p-values of hypotheses, if there are some.
 fn put_single(text: &mut List<u8>, inputs: &Inputs) -> Result<(), NoMemory>
     ensures { OnOk result (text.new ≡ text.old ++ text_of (p_lines inputs.now)) }
 {
@@ -173,7 +173,7 @@ fn put_single(text: &mut List<u8>, inputs: &Inputs) -> Result<(), NoMemory>
     }
 }
 
-/// Appends the stages of a case, if there are some.
+/// Appends the lines of the stages of a case, if it has stages.
 fn put_staged(text: &mut List<u8>, case: &Case) -> Result<(), NoMemory>
     ensures { OnOk result (text.new ≡ text.old ++ text_of (late_lines (content case.now).names (content case.now).inputs)) }
 {
@@ -202,8 +202,8 @@ fn written(alloc: Global, case: &Case) -> Result<List<u8>, NoMemory>
 ///
 /// Words are one blank apart, and a line feed ends each line. Numbers are in lowest terms, as `Fraction::print` writes them. Of
 /// the edges of a component those that aren't 0 are written, by ascending first and then second end, as `print_entry` writes
-/// them. One component of share 1 has no line of its share. A table of levels stays one, and the p-values that arrived keep
-/// their order.
+/// them. If there is only one component and its share is 1, no share is written. A table of levels is written as a table, and
+/// the p-values that arrived keep their order.
 #[tactic(auto, using(crate::proofs::CanonicalCases::says_its_case))]
 pub fn write_text(alloc: Global, case: &Case) -> Result<List<u8>, NoMemory>
     ensures canonical { IfOk result (λ text. text ≡ canonical_text (content case.now)) }

@@ -15,7 +15,7 @@ use Rattle.entangled.specs.Loading.{loaded_states}
 pub data CaseState : Type 0 where
   state_of : (n : Numbers) → Bundled (state_in n) → CaseState
 
--- the written opening of a case in these numbers: its components are loaded, and then the levels are made
+-- the written opening of a case in these numbers: its components are loaded, and then the levels are computed
 unfoldable pub opening_in : (n : Numbers) → Content → Result (Bundled (state_in n)) WideAt
 opening_in n c = do
   states ← loaded_states n (length c.names) c.components
@@ -41,7 +41,7 @@ is_live_in_case (state_of n b) k = is_live (graph_in n) b k
 abbrev pub case_level : CaseState → ℕ → Terms
 case_level (state_of n b) k = level b k
 
--- the numbers that it is run in
+-- the numbers that a case is run in
 abbrev pub case_numbers : CaseState → Numbers
 case_numbers (state_of n b) = n
 

@@ -22,13 +22,13 @@ module _ (n : Numbers) (m : ℕ) where
   unfoldable pub loaded_edges : List (List Ratio) → Result (List Parts) Wide
   loaded_edges table = each_below (m * m) (edge_at table)
 
-  -- the graph of a component of `m` hypotheses, all of them in, with its weights and its edges
+  -- the graph of a component of `m` hypotheses, all of which remain, with its weights and its edges
   unfoldable pub loaded_graph : Component → Result StoredGraph Wide
   loaded_graph k = do
     edges ← loaded_edges k.edges
     Ok (all_live (map (loaded_weight n) k.weights) edges)
 
-  -- the state of its net
+  -- the state of the net of a component
   unfoldable pub loaded_state : Component → Result (state_in n) Wide
   loaded_state k = do
     graph ← loaded_graph k

@@ -17,7 +17,7 @@ abbrev pub state_in : Numbers → Type 0
 state_in in_fractions = StoredGraph
 state_in in_quotients = StoredRows
 
--- its graph
+-- the graph of a state
 abbrev pub graph_in : (n : Numbers) → state_in n → StoredGraph
 graph_in in_fractions = λ G. G
 graph_in in_quotients = rows_graph
@@ -27,7 +27,7 @@ abbrev pub IsProperIn : (n : Numbers) → state_in n → Type 0
 IsProperIn in_fractions = AreStored plain IsFraction
 IsProperIn in_quotients = AreProperRows
 
--- the written removal
+-- the written removal of a hypothesis from a state
 abbrev pub removal_in : (n : Numbers) → state_in n → ℕ → Result (state_in n) Wide
 removal_in in_fractions = written_removal plain
 removal_in in_quotients = row_removal
@@ -37,7 +37,7 @@ abbrev pub gathered_in : (n : Numbers) → StoredGraph → Result (state_in n) W
 gathered_in in_fractions = λ G. Ok G
 gathered_in in_quotients = gathered
 
--- a state can be made of it: rows are gathered from quotients over constants
+-- a state can be made of the graph: rows are gathered only from quotients over constants
 abbrev pub CanGather : Numbers → StoredGraph → Type 0
 CanGather in_fractions G = Unit {0}
 CanGather in_quotients G = HasConstants G

@@ -10,7 +10,7 @@ use fraction::Fraction;
 use removal::Remover;
 use std::alloc::Global;
 
-/// Why nothing was opened: a written operation of the opening has a part past its size, or memory is out.
+/// Why nothing was opened: a written operation of the opening has a part past its size, or the call is out of memory.
 pub type OpenFault = Fault<WideAt>;
 
 /// Several nets over one set of hypotheses, each with its share of the level.
@@ -43,7 +43,7 @@ impl<R: Remover + Drop> Bundle<R> {
     /// Returns the bundle of these nets, in each of which all hypotheses remain, with these shares. There is at least one net,
     /// all are of one size, and each has a share; the shares aren't below 0 and sum to at most 1.
     ///
-    /// Unless out of memory, it is `OpenFault::Wide` exactly if the written opening is undefined.
+    /// Unless out of memory, the call is refused with `OpenFault::Wide` exactly if the written opening is undefined.
     pub fn try_new(
         alloc: Global,
         nets: List<R>,
@@ -116,8 +116,8 @@ impl<R: Remover> Bundle<R> {
         &self.nets[c]
     }
 
-    /// Removes `j`, which remains, from all nets. It is `WideAt` exactly if the written removal is undefined; the bundle then
-    /// stays.
+    /// Removes `j`, which remains, from all nets. It is refused with `WideAt` exactly if the written removal is undefined; the
+    /// bundle then stays as it was.
     pub fn remove(&mut self, j: usize) -> Result<(), WideAt>
         requires { is_live R.graph (bundled self.old) j ≡ true }
         ensures value { ok_map (λ _. bundled self.new) result ≡ removed R.Value.kind R.graph R.removal (bundled self.old) j }
@@ -131,7 +131,7 @@ impl<R: Remover> Bundle<R> {
         Ok(())
     }
 
-    /// Makes this bundle that of `other`, which has the same size and equal shares. What was prepared before is removed.
+    /// Makes this bundle equal to `other`, which has the same size and equal shares. Nothing is prepared afterwards.
     pub fn set_to(&mut self, other: &Bundle<R>)
         requires size { size R.graph (bundled self.old) ≡ size R.graph (bundled other.now) }
         requires shares { (bundled self.old).shares ≡ (bundled other.now).shares }

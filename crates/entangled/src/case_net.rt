@@ -62,11 +62,11 @@ impl CaseNet {
     };
     ghost use Rattle.field_core.specs.Made.{Makes};
 
-    /// Returns the nets of a case, with all hypotheses in: of fractions if the case is plain, and of rows of quotients in
-    /// epsilon if it isn't. There each edge is loaded as the written polynomial of its coefficients, and then the rows of each
+    /// Returns the nets of a case, in which all hypotheses remain. They are of fractions if the case is plain, and else of rows of
+    /// quotients in epsilon. In these each edge is loaded as the written polynomial of its coefficients, and then the rows of each
     /// component are gathered.
     ///
-    /// Unless out of memory, it is `OpenFault::Wide` exactly if the written opening is undefined.
+    /// Unless out of memory, the call is refused with `OpenFault::Wide` exactly if the written opening is undefined.
     #[tactic(auto, unfolding(crate::specs::CaseNetView::case_state), using(crate::proofs::CaseNumbers::openings))]
     pub fn load(alloc: Global, case: &Case) -> Result<CaseNet, OpenFault>
         ensures opened { Makes case_state result (case_opening (content case.now)) }
@@ -114,8 +114,8 @@ impl CaseNet {
         }
     }
 
-    /// Removes `j`, which remains, from all nets. It is `WideAt` exactly if the written removal is undefined; the nets then
-    /// stay.
+    /// Removes `j`, which remains, from all nets. It is refused with `WideAt` exactly if the written removal is undefined; the
+    /// nets then stay as they were.
     pub fn remove(&mut self, j: usize) -> Result<(), WideAt>
         requires { is_live_in_case (case_state self.old) j ≡ true }
         ensures value { ok_map (λ _. case_state self.new) result ≡ case_removal (case_state self.old) j }
@@ -127,8 +127,8 @@ impl CaseNet {
         }
     }
 
-    /// Makes these nets those of `other`, which are of the same numbers, with the same size and equal shares. What was prepared
-    /// before is removed.
+    /// Makes these nets equal to `other`, which are of the same kind of numbers, the same size and equal shares. Nothing is prepared
+    /// afterwards.
     pub fn set_to(&mut self, other: &CaseNet)
         requires numbers { case_numbers (case_state self.old) ≡ case_numbers (case_state other.now) }
         requires size { case_size (case_state self.old) ≡ case_size (case_state other.now) }

@@ -19,10 +19,10 @@ use std::alloc::Global;
 pub trait ComponentNet: Drop {
     type Value: CaseNumber;
 
-    /// Which numbers its values are.
+    /// Which of the two kinds of numbers the net's values are.
     ghost numbers: { Numbers };
 
-    /// Its state, as the nets of these numbers have it.
+    /// The state of a net.
     ghost state: { Self → state_in numbers };
 
     /// Returns the net with these weights and edges, in which all hypotheses remain. There are at most 64 hypotheses, a weight
@@ -40,7 +40,7 @@ pub trait ComponentNet: Drop {
         ensures { Makes state result (in_component component (gathered_in numbers (all_live
             (map Self.Value.parts weights.now) (map Self.Value.parts edges.now)))) };
 
-    /// Its values are those numbers.
+    /// The net's values are numbers of that kind.
     ghost numbers_are: { Self.Value.numbers ≡ numbers };
 }
 

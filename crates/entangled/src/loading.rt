@@ -33,7 +33,7 @@ pub fn weights<F: CaseNumber>(alloc: Global, case: &Case, c: usize) -> Result<Li
     Ok(weights)
 }
 
-/// Returns the edge at a place of a table of this number of rows.
+/// Returns the edge at a place of a table of `size` rows.
 #[tactic(auto, unfolding(crate::specs::Loading::edge_at))]
 fn edge<F: CaseNumber>(table: &[Entry], size: usize, i: usize) -> Result<F, Wide>
     requires rows { 0 < size }
@@ -43,7 +43,7 @@ fn edge<F: CaseNumber>(table: &[Entry], size: usize, i: usize) -> Result<F, Wide
     F::edge(&table[i]).map_err(|wide| wide.at(Place::Edge(i / size, i % size)))
 }
 
-/// Writes the edges of a table of this number of rows.
+/// Writes the edges of a table of `size` rows.
 #[tactic(auto, unfolding(crate::specs::Loading::loaded_edges))]
 fn write_edges<F: CaseNumber>(table: &[Entry], size: usize, edges: &mut [F]) -> Result<(), Wide>
     requires rows { 0 < size }
@@ -54,7 +54,8 @@ fn write_edges<F: CaseNumber>(table: &[Entry], size: usize, edges: &mut [F]) -> 
     try_fill(edges, |i| edge(table, size, i))
 }
 
-/// Returns the edges of a component, row by row. Unless out of memory, it is `OpenFault::Wide` exactly if one is undefined.
+/// Returns the edges of a component, row by row. Unless out of memory, it is refused with `OpenFault::Wide` exactly if one of
+/// them is undefined.
 #[tactic(auto, using(std::proofs::lemmas::List::with_items_is))]
 pub fn edges<F: CaseNumber>(alloc: Global, case: &Case, c: usize) -> Result<Vec<F>, OpenFault>
     requires { c < length (content case.now).components }
@@ -67,7 +68,8 @@ pub fn edges<F: CaseNumber>(alloc: Global, case: &Case, c: usize) -> Result<Vec<
     Ok(edges)
 }
 
-/// Returns the net of a component.
+/// Returns the net of a component. Unless out of memory, it is refused with `OpenFault::Wide` exactly if the written loading of
+/// the component is undefined.
 #[tactic(auto, using(crate::proofs::LoadSteps::state_refused))]
 pub fn net<N: ComponentNet>(alloc: Global, case: &Case, c: usize) -> Result<N, OpenFault>
     requires numbers { CanRunIn N.numbers (content case.now) }

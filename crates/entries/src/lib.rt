@@ -1,8 +1,8 @@
 //! The entry of a text that is an edge expression, as one function.
 //!
 //! `edge_expression` describes expressions by a grammar with their values, and the faults of other texts. Each text has
-//! exactly one entry or one fault, so the two are a function, `entry_of`, in terms of which readers of larger texts
-//! state what they return.
+//! exactly one entry or one fault. So the two make one function, `entry_of`, and readers of larger texts state by it what they
+//! return.
 //!
 //! Proved:
 //! - `read_entry`: `value` (it returns `entry_of` of its text).

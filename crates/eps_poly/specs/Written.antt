@@ -25,7 +25,7 @@ written_coefficient p q k (suc n) = do
   product ← sized (coefficient p n *ℤ coefficient q (k - n))
   sized (sum +ℤ product)
 
--- one more, but for a zero with nothing above it
+-- one more than the number `n` of coefficients above; but 0 for a coefficient that is 0, if `n` is 0
 unfoldable pub counted : ℤ → ℕ → ℕ
 counted (pos zero) zero = 0
 counted (pos zero) (suc n) = suc (suc n)

@@ -5,21 +5,21 @@ ghost use Rattle.field_core.specs.Kind.{is_zero_integer};
 
 use field_core::Whole;
 
-/// Whether it is 0.
+/// Whether the number is 0.
 pub fn is_zero(c: Whole) -> bool
     ensures { result ≡ is_zero_integer c }
 {
     c.value() == 0
 }
 
-/// Whether it is below 0.
+/// Whether the number is below 0.
 pub fn is_below_zero(c: Whole) -> bool
     ensures { IsTrue result ↔ (c <ℤ pos 0) }
 {
     c.value() < 0
 }
 
-/// Whether it fits 64 bits.
+/// Whether the number fits 64 bits.
 pub fn is_short(c: Whole) -> bool
     ensures { IsTrue result ↔ FitsSigned w64 c }
 {

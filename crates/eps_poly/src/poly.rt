@@ -42,7 +42,7 @@ pub const COUNT: usize = 33;
 
 /// A polynomial in epsilon with whole coefficients: one of at most 2^127 - 1 in size for each of the powers 0 to 32.
 ///
-/// It knows how many of them there are up to the last that isn't 0, so no call looks at the zeros above.
+/// It stores how many of them there are up to the last that isn't 0, so no call looks at the zeros above.
 #[derive(Clone, Copy, Debug)]
 pub struct EpsPoly {
     used: usize,
@@ -117,8 +117,8 @@ impl EpsPoly {
         single
     }
 
-    /// Returns this polynomial with `c` as one coefficient, refused with `Op::Add` exactly if `c` is the least `i128`; `power`
-    /// is at most 32.
+    /// Returns this polynomial with `c` in place of the coefficient of `power`, refused with `Op::Add` exactly if `c` is the least
+    /// `i128`; `power` is at most 32.
     pub fn with(&self, power: usize, c: i128) -> Result<EpsPoly, TooWide>
         requires { power ≤ 32 }
         ensures { result ≡ or_wide Add (option_map (slice_set self.now power) (sized c)) }
@@ -129,7 +129,7 @@ impl EpsPoly {
         Ok(changed)
     }
 
-    /// Puts `c` in place of one coefficient; `power` is at most 32.
+    /// Puts `c` in place of the coefficient of `power`, which is at most 32.
     pub fn put(&mut self, power: usize, c: Whole)
         requires { power ≤ 32 }
         ensures { self.new ≡ slice_set self.old power c }
@@ -139,18 +139,18 @@ impl EpsPoly {
         self.used = used;
     }
 
-    /// Returns one coefficient of this polynomial, with that of `power` replaced by `c`.
+    /// Returns the coefficient of the power `at` once that of `power` is replaced by `c`.
     fn whole_with(&self, power: usize, c: Whole, at: usize) -> Whole
         requires power { power ≤ 32 }
         requires at { at ≤ 32 }
         ensures { result ≡ coefficient (slice_set self.now power c) at }
     {
-        // a look at the field says that it is a polynomial
+        // for the proof: reading the field shows that this is a polynomial
         let _ = &self.entries;
         if at == power { c } else { self.whole(at) }
     }
 
-    /// Returns how many coefficients there are up to the last that isn't 0, where that of `power` is `c`.
+    /// Returns how many coefficients there are up to the last that isn't 0 once that of `power` is replaced by `c`.
     fn used_with(&self, power: usize, c: Whole) -> usize
         requires { power ≤ 32 }
         ensures { result ≡ count_to_last (slice_set self.now power c) }
@@ -179,7 +179,7 @@ impl EpsPoly {
         self.used
     }
 
-    /// Becomes another polynomial. A coefficient that is 0 in both isn't copied.
+    /// Copies another polynomial into this one. A coefficient that is 0 in both isn't copied.
     pub fn copy_from(&mut self, other: &EpsPoly)
         ensures { self.new ≡ other.now }
     {
@@ -188,7 +188,7 @@ impl EpsPoly {
         self.used = other.used;
     }
 
-    /// Becomes the polynomial 0.
+    /// Makes this polynomial 0.
     pub fn clear(&mut self)
         ensures { self.new ≡ zero_polynomial }
     {
@@ -213,7 +213,7 @@ impl EpsPoly {
         Whole::new(self.entries[power])
     }
 
-    /// Whether each coefficient fits 64 bits.
+    /// Whether each coefficient fits 64 bits. Its clause states only that a yes is right.
     pub(crate) fn is_short(&self) -> bool
         ensures { IsTrue result → IsShort self.now }
     {
@@ -234,7 +234,7 @@ impl EpsPoly {
         Short::new(self.coefficient(power) as i64)
     }
 
-    /// Whether the coefficients below `end` are the same, where all those above are 0.
+    /// Whether two polynomials are the same whose last coefficients that aren't 0 are both just below `end`.
     fn is_same_below(&self, other: &EpsPoly, end: usize) -> bool
         requires own { end ≡ count_to_last self.now }
         requires other { end ≡ count_to_last other.now }
@@ -282,7 +282,7 @@ impl EpsPoly {
         if order == COUNT { None } else { Some(order) }
     }
 
-    /// Whether it is 0.
+    /// Whether the polynomial is 0.
     pub fn is_zero(&self) -> bool
         ensures value { result ≡ list_all is_zero_integer self.now }
         ensures zero { IsTrue result ↔ (lowest self.now ≡ pos 0) }
@@ -346,7 +346,7 @@ impl EpsPoly {
         turned.lowered(self.order(), self.whole_content())
     }
 
-    /// This polynomial or its opposite, whichever has a positive lowest coefficient.
+    /// Returns this polynomial or its opposite, whichever has a positive lowest coefficient.
     fn turned(&self) -> EpsPoly
         ensures { result ≡ turned_as (lowest self.now) self.now }
     {
@@ -363,7 +363,7 @@ impl EpsPoly {
         requires by { pos 0 <ℤ by }
         ensures { result ≡ lowered power by self.now }
     {
-        // a look at the field says that it is a polynomial
+        // for the proof: reading the field shows that this is a polynomial
         let _ = &self.entries;
         if power == 0 && by.value() == 1 {
             return *self;
@@ -454,7 +454,7 @@ impl EpsPoly {
         ensures written { result ≡ sized_sum self.now other.now }
         ensures exact { IfSome result (λ r. Same r (poly_add self.now other.now)) }
     {
-        // their numbers of coefficients show that they are polynomials
+        // for the proof: the contract of `used` shows that both are polynomials
         let _ = (self.used(), other.used());
         let mut sum = *self;
         sum.write_sum(other)?;
@@ -471,16 +471,16 @@ impl EpsPoly {
         Some(product)
     }
 
-    /// Adds another polynomial to this one, or is `TooWide` exactly if the written sum has a part past its size; then what was
-    /// written before stays.
+    /// Adds another polynomial to this one. It is refused with `TooWide` exactly if the written sum has a part past its size;
+    /// this polynomial may then be partly overwritten.
     pub fn add_assign(&mut self, other: &EpsPoly) -> Result<(), TooWide>
         ensures { ok_map (λ _. self.new) result ≡ or_wide Add (sized_sum self.old other.now) }
     {
         self.write_sum(other).ok_or(TooWide { op: Op::Add })
     }
 
-    /// Subtracts another polynomial from this one, or is `TooWide` exactly if the written difference has a part past its size;
-    /// then what was written before stays.
+    /// Subtracts another polynomial from this one. It is refused with `TooWide` exactly if the written difference has a part past
+    /// its size; this polynomial may then be partly overwritten.
     pub fn sub_assign(&mut self, other: &EpsPoly) -> Result<(), TooWide>
         ensures { ok_map (λ _. self.new) result ≡ or_wide Sub (sized_sum self.old (poly_negate other.now)) }
     {
@@ -488,8 +488,8 @@ impl EpsPoly {
             .ok_or(TooWide { op: Op::Sub })
     }
 
-    /// Becomes the product of two polynomials, or is `TooWide` exactly if the written product has a part past its size or a
-    /// degree above 32. What was written before then stays.
+    /// Makes this polynomial the product of two others. It is refused with `TooWide` exactly if the written product has a part past
+    /// its size or a degree above 32; this polynomial may then be partly overwritten.
     pub fn put_product(&mut self, left: &EpsPoly, right: &EpsPoly) -> Result<(), TooWide>
         ensures { ok_map (λ _. self.new) result ≡ or_wide Mul (sized_product left.now right.now) }
     {
@@ -497,11 +497,11 @@ impl EpsPoly {
             .ok_or(TooWide { op: Op::Mul })
     }
 
-    /// Writes the sum with another polynomial.
+    /// Adds another polynomial to this one, coefficient by coefficient, up to the first whose sum is too wide.
     fn write_sum(&mut self, other: &EpsPoly) -> Option<()>
         ensures { option_map (λ _. self.new) result ≡ sized_sum self.old other.now }
     {
-        // the number of its coefficients says that it is a polynomial
+        // for the proof: the contract of `used` shows that this is a polynomial
         let _ = self.used();
         for power in 0..other.used() {
             let left = self.whole(power);
@@ -511,7 +511,7 @@ impl EpsPoly {
         Some(())
     }
 
-    /// Writes the product of two polynomials.
+    /// Writes the product of two polynomials into this one, up to the first coefficient that is too wide.
     fn write_product(&mut self, left: &EpsPoly, right: &EpsPoly) -> Option<()>
         ensures { option_map (λ _. self.new) result ≡ sized_product left.now right.now }
     {
@@ -550,13 +550,13 @@ impl EpsPoly {
         Some(quotient)
     }
 
-    /// Becomes the polynomial `q` whose written product with `by` is `p`, or is `None` exactly if there is none; then what was
-    /// written before stays. `spare` is room for that product.
+    /// Makes this polynomial the `q` whose written product with `by` is `p`, and returns `None` exactly if there is none;
+    /// this polynomial may then be partly overwritten. `spare` is room for that product.
     pub fn put_quotient(&mut self, p: &EpsPoly, by: &EpsPoly, spare: &mut EpsPoly) -> Option<()>
         requires { IsNonZero by.now }
         ensures { option_map (λ _. self.new) result ≡ exact_quotient p.now by.now }
     {
-        // their numbers of coefficients show that they are polynomials
+        // for the proof: the contract of `used` shows that both are polynomials
         let _ = (p.used(), by.used());
         if p.is_zero() {
             self.clear();

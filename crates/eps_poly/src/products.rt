@@ -9,8 +9,8 @@ use crate::EpsPoly;
 use crate::numbers::is_zero;
 use field_core::Whole;
 
-/// Returns the product of a coefficient of each factor. If it may be known that all coefficients of both fit 64 bits, it is never
-/// too wide. A product by 0 is not multiplied out.
+/// Returns the product of the coefficients of the powers `first` and `second`, or nothing if it is too wide. `are_short` may be
+/// set only if all coefficients of both factors fit 64 bits; then it never is. A product by 0 is not multiplied out.
 fn product_at(
     p: &EpsPoly,
     q: &EpsPoly,
@@ -35,7 +35,8 @@ fn product_at(
     left.checked_mul(right)
 }
 
-/// Returns what the coefficients below `count` of the first factor add to a coefficient of the product.
+/// Returns what the coefficients below `count` of the first factor add to the coefficient of `power` in the product, or nothing
+/// if a part of that is too wide.
 #[tactic(auto, using(crate::proofs::ProductLaws::coefficient_none))]
 pub fn part_of_product(
     p: &EpsPoly,

@@ -33,7 +33,7 @@ fn next(
     divided(rest, by.whole(low))
 }
 
-/// Writes the only polynomial that times `by` can be `p`, or is `None` if there is none.
+/// Writes the only polynomial whose product with `by` can be `p`. It returns `None` only if there is none.
 pub fn write_candidate(p: &EpsPoly, by: &EpsPoly, quotient: &mut EpsPoly) -> Option<()>
     requires { IsNonZero by.now }
     ensures only { (q : List ℤ) → sized_product q by.now ≡ Some p.now → IsSomeAnd result (λ _. Same quotient.new q) }

@@ -8,7 +8,7 @@ use Rattle.field_core.specs.Polynomial.{coefficient, IsNonZero}
 use Rattle.eps_poly.specs.Polynomials.{by_powers, monomial}
 use Rattle.eps_quotient.specs.Lowering.{one_polynomial}
 
--- digits, and the number that they write, which is at most 2^127 - 1
+-- digits, and the number that they denote, which is at most 2^127 - 1
 pub record IsNumber (text : List ℕ) (n : ℕ) : Type 0 where
   pub some : 0 < length text
   pub digits : list_all is_ascii_digit text ≡ true
@@ -34,7 +34,7 @@ pub record IsWhole (text : List ℕ) (z : ℤ) : Type 0 where
   pub spelt : text ≡ minus_text negative ++ digits
   pub value : z ≡ signed negative number
 
--- each word writes its whole number
+-- each word denotes its whole number
 abbrev pub AreWholes : List (List ℕ) → List ℤ → Type 0
 AreWholes [] [] = Unit {0}
 AreWholes [] (c ∷ cs) = ⊥
@@ -92,11 +92,11 @@ pub record IsQuotientText (text : List ℕ) (n d : List ℤ) : Type 0 where
   pub polynomials : IsPolynomials text n d
   pub nonzero : IsNonZero d
 
--- What is found is as P says, and nothing else is.
+-- What is found satisfies P, and whatever satisfies P is found.
 pub record IsOnly {A : Type 0} (P : A → Type 0) (found : Option A) : Type 0 where
   pub is : IfSome found P
   pub only : (x : A) → P x → found ≡ Some x
 
--- the same, of a numerator and a denominator
+-- The pair of polynomials that is found satisfies P, and whatever pair satisfies P is found.
 abbrev pub IsOnlyPair : (List ℤ → List ℤ → Type 0) → Option (List ℤ × List ℤ) → Type 0
 IsOnlyPair P = IsOnly (λ x. P x.0 x.1)

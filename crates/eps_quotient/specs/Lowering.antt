@@ -21,11 +21,11 @@ zero_quotient = record { numerator = zero_polynomial; denominator = one_polynomi
 abbrev pub one_quotient : Parts
 one_quotient = record { numerator = one_polynomial; denominator = one_polynomial }
 
--- the greatest common divisor of all coefficients
+-- the greatest common divisor of all coefficients of two polynomials
 abbrev pub common_content : List ℤ → List ℤ → ℕ
 common_content a b = gcd (content a) (content b)
 
--- the least power with a coefficient that isn't 0
+-- the least power with a coefficient that isn't 0 in one of two polynomials
 abbrev pub common_order : List ℤ → List ℤ → ℕ
 common_order a b = min (order a) (order b)
 
@@ -36,7 +36,7 @@ without_powers a b = record {
   denominator = lowered (common_order a b) (pos (common_content a b)) b;
 }
 
--- the same if both cores are replaced by 1
+-- a/b, without common content and common powers of epsilon, and with both cores replaced by 1
 unfoldable pub without_cores : List ℤ → List ℤ → Parts
 without_cores a b = record {
   numerator = monomial (int_div (factor a) (pos (common_content a b))) (order a - common_order a b);

@@ -16,12 +16,12 @@ abbrev pub is_some_text : List ℕ → Bool
 is_some_text [] = false
 is_some_text (b ∷ bs) = true
 
--- the number that digits write, if it is at most 2^127 - 1
+-- the number that a text of digits denotes, if it is at most 2^127 - 1
 unfoldable pub number_of : List ℕ → Option ℤ
 number_of text = if (is_some_text text && list_all is_ascii_digit text)
     && nat_lt (digits_value 10 text) (2 ^ 127) then Some (pos (digits_value 10 text)) else None
 
--- the same, perhaps after a minus
+-- the number that a text of digits denotes, perhaps after a minus, if it is at most 2^127 - 1 in size
 unfoldable pub whole_of : List ℕ → Option ℤ
 whole_of [] = None
 whole_of (b ∷ bs) = if b == 45 then and_then (number_of bs) (λ z. Some (neg_ℤ z)) else number_of (b ∷ bs)

@@ -27,13 +27,13 @@ fn lowest_terms(num: Whole, den: Whole) -> Ratio
 }
 
 /// Returns the limit of the quotient of two polynomials, which is from 0 to 1, as epsilon decreases to 0. It is the quotient of
-/// the coefficients of the least power of the denominator. So the quotient needs no norm.
+/// the coefficients of the least power of the denominator, so the norm of the quotient isn't computed.
 pub fn limit(num: &EpsPoly, den: &EpsPoly) -> Ratio
     requires some { IsNonZero den.now }
     requires unit { IsUnit (value_of (norm num.now den.now)) }
     ensures { terms result ≡ limit_terms (norm num.now den.now) }
 {
-    // the degree says that it is a polynomial
+    // for the proof: the contract of `degree` shows that this is a polynomial
     let _ = num.degree();
     let power = den.order();
     let above = num.whole(power);

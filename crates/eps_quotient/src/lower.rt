@@ -11,7 +11,7 @@ use crate::pair::Pair;
 use eps_poly::EpsPoly;
 use field_core::Whole;
 
-/// Returns the greatest common divisor of all coefficients.
+/// Returns the greatest common divisor of all coefficients of two polynomials.
 fn common_content(a: &EpsPoly, b: &EpsPoly) -> Whole
     requires { IsNonZero b.now }
     ensures value { result ≡ pos (common_content a.now b.now) }
@@ -37,7 +37,7 @@ fn have_one_core(a: &EpsPoly, b: &EpsPoly) -> bool
     a.core() == b.core()
 }
 
-/// Returns the quotient without common content and common powers of epsilon.
+/// Returns the quotient of two polynomials without common content and common powers of epsilon, of which `power` is the greatest.
 #[tactic(auto, unfolding(crate::specs::Lowering::without_powers), using(crate::specs::Laws::Cuts::order_within))]
 fn without_powers(a: &EpsPoly, b: &EpsPoly, power: usize) -> Pair
     requires a { IsNonZero a.now }
@@ -53,7 +53,7 @@ fn without_powers(a: &EpsPoly, b: &EpsPoly, power: usize) -> Pair
     }
 }
 
-/// Returns the same if both cores are replaced by 1.
+/// Returns what `without_powers` returns if both cores are replaced by 1.
 #[tactic(auto, unfolding(crate::specs::Lowering::without_cores), using(crate::specs::Laws::Cuts::order_within))]
 fn without_cores(a: &EpsPoly, b: &EpsPoly, power: usize) -> Pair
     requires a { IsNonZero a.now }

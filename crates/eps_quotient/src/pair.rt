@@ -52,7 +52,7 @@ impl Pair {
         }
     }
 
-    /// Whether it is 0.
+    /// Whether the quotient is 0.
     #[tactic(auto, unfolding(field_core::specs::Kind::is_zero))]
     pub fn is_zero(&self) -> bool
         ensures { result ≡ is_zero (pair_parts self.now) }
@@ -60,7 +60,7 @@ impl Pair {
         self.numerator.is_zero()
     }
 
-    /// Whether it is 1/1.
+    /// Whether the quotient is 1/1.
     #[tactic(auto, unfolding(crate::specs::Quotients::is_one))]
     pub fn is_one(&self) -> bool
         ensures { result ≡ is_one (pair_parts self.now) }
@@ -68,7 +68,8 @@ impl Pair {
         is_one(&self.numerator) && is_one(&self.denominator)
     }
 
-    /// Returns whether it is below, at or above 0. The lowest coefficient of its denominator is positive.
+    /// Returns whether a stored quotient is below, at or above 0: the sign of the lowest coefficient of its numerator, since that of
+    /// its denominator is positive.
     #[tactic(auto, unfolding(field_core::specs::Kind::sign_of))]
     pub fn sign(&self) -> Ordering
         ensures { result ≡ sign_of (pair_parts self.now) }
@@ -98,7 +99,7 @@ pub fn one() -> EpsPoly
     EpsPoly::monomial(Whole::new(1), 0)
 }
 
-/// Whether it is the polynomial 1.
+/// Whether a polynomial is 1.
 fn is_one(p: &EpsPoly) -> bool
     ensures { result ≡ is_same p.now one_polynomial }
 {

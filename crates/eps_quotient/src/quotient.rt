@@ -142,7 +142,7 @@ impl EpsQuotient {
         }
     }
 
-    /// Returns what an operation answers whose written parts may be refused.
+    /// Returns the answer of the operation `op`: this quotient, or the refusal that names `op` if there is none.
     fn answer(op: Op, pair: Option<Pair>) -> Result<EpsQuotient, TooWide>
         requires { IfSome pair (λ x. IsQuotient (pair_parts x)) }
         ensures { ok_map quotient_parts result ≡ or_wide op (option_map pair_parts pair) }
@@ -190,7 +190,7 @@ impl Number for EpsQuotient {
         EpsQuotient::answer(Op::Div, quotient(&self.pair, &other.pair))
     }
 
-    /// Returns how it compares with `other`. It is refused exactly if the difference is, with `Op::Sub`.
+    /// Returns the order of this quotient and `other`. It is refused with `Op::Sub` exactly if their difference is.
     fn compare(&self, other: &EpsQuotient) -> Result<Ordering, TooWide> {
         match self.sub(other) {
             Ok(difference) => Ok(difference.sign()),

@@ -36,7 +36,7 @@ fn are_digits(text: &[u8]) -> bool
     text.iter().all(|byte| byte.is_ascii_digit())
 }
 
-/// Returns the number that digits write, or the greatest that there is if it is greater.
+/// Returns the number that digits denote, or 2^128 - 1 if that is less.
 fn size(digits: &[u8]) -> u128
     requires { list_all is_ascii_digit digits.now ≡ true }
     ensures { result ≡ min (digits_value 10 digits.now) (2 ^ 128 - 1) }
@@ -50,7 +50,7 @@ fn size(digits: &[u8]) -> u128
     size
 }
 
-/// Returns the number that digits write, if it is at most 2^127 - 1.
+/// Returns the number that a text of digits denotes, if it is at most 2^127 - 1.
 #[tactic(auto, unfolding(crate::specs::Reading::number_of))]
 fn number(text: &[u8]) -> Option<Whole>
     ensures { result ≡ number_of text.now }
@@ -65,7 +65,7 @@ fn number(text: &[u8]) -> Option<Whole>
     Some(Whole::new(size as i128))
 }
 
-/// Returns the number that digits write, perhaps after a minus.
+/// Returns the number that digits denote, perhaps after a minus, if it is at most 2^127 - 1 in size.
 #[tactic(auto, unfolding(crate::specs::Reading::whole_of))]
 fn whole(text: &[u8]) -> Option<Whole>
     ensures { result ≡ whole_of text.now }
@@ -77,7 +77,7 @@ fn whole(text: &[u8]) -> Option<Whole>
     }
 }
 
-/// Returns what is before the first such byte, and after it.
+/// Returns what is before the first `byte` of a text, and what is after it; nothing if the text doesn't have it.
 fn cut(text: &[u8], byte: u8) -> Option<(&[u8], &[u8])>
     ensures none { IfNone result (All (λ b. (b == byte) ≡ false) text.now) }
     ensures whole { IfSome result (λ x. text.now ≡ x.0.now ++ byte ∷ x.1.now) }
@@ -90,7 +90,7 @@ fn cut(text: &[u8], byte: u8) -> Option<(&[u8], &[u8])>
     Some((&text[..front], &text[front + 1..]))
 }
 
-/// Returns what is inside the brackets.
+/// Returns what is inside the brackets of a text, if it is in brackets.
 fn inside(text: &[u8]) -> Option<&[u8]>
     ensures found { IfSome result (λ inner. text.now ≡ 91 ∷ inner.now ++ 93 ∷ []) }
     ensures none { IfNone result ((inner : List ℕ) → text.now ≢ 91 ∷ inner ++ 93 ∷ []) }
@@ -125,7 +125,7 @@ fn list(text: &[u8]) -> Option<EpsPoly>
     polynomial(inside(text)?)
 }
 
-/// Returns a whole number over a number.
+/// Returns the two polynomials of a whole number over a number, both constants.
 fn fraction(over: &[u8], under: &[u8]) -> Option<(EpsPoly, EpsPoly)>
     ensures { IsOnlyPair (IsFraction over.now under.now) result }
 {
@@ -134,7 +134,7 @@ fn fraction(over: &[u8], under: &[u8]) -> Option<(EpsPoly, EpsPoly)>
     Some((EpsPoly::monomial(num, 0), EpsPoly::monomial(den, 0)))
 }
 
-/// Returns a list over a list.
+/// Returns the two polynomials of a list over a list.
 fn lists(over: &[u8], under: &[u8]) -> Option<(EpsPoly, EpsPoly)>
     ensures { IsOnlyPair (IsLists over.now under.now) result }
 {
@@ -143,7 +143,7 @@ fn lists(over: &[u8], under: &[u8]) -> Option<(EpsPoly, EpsPoly)>
     Some((numerator, denominator))
 }
 
-/// Returns what depends on both sides of a slash.
+/// Returns the two polynomials of both sides of a slash, which are numbers or lists.
 fn sides(over: &[u8], under: &[u8]) -> Option<(EpsPoly, EpsPoly)>
     ensures { IsOnlyPair (AreSides over.now under.now) result }
 {
@@ -153,7 +153,7 @@ fn sides(over: &[u8], under: &[u8]) -> Option<(EpsPoly, EpsPoly)>
     }
 }
 
-/// Returns a whole number over 1.
+/// Returns the two polynomials of a whole number: itself, and 1.
 fn over_one(text: &[u8]) -> Option<(EpsPoly, EpsPoly)>
     ensures { IsOnlyPair (IsWholeText text.now) result }
 {
@@ -161,7 +161,7 @@ fn over_one(text: &[u8]) -> Option<(EpsPoly, EpsPoly)>
     Some((EpsPoly::monomial(number, 0), one()))
 }
 
-/// Returns the two polynomials of a text.
+/// Returns the two polynomials of a text without or with a slash, and nothing for any other text. The second may be 0.
 pub fn polynomials(text: &[u8]) -> Option<(EpsPoly, EpsPoly)>
     ensures { IsOnlyPair (IsPolynomials text.now) result }
 {

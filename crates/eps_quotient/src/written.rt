@@ -10,7 +10,7 @@ use crate::lower::{lower, norm};
 use crate::pair::Pair;
 use eps_poly::EpsPoly;
 
-/// Returns the inverse.
+/// Returns the inverse of a quotient that isn't 0.
 #[tactic(auto, unfolding(crate::specs::Quotients::inverse, field_core::specs::Kind::is_zero))]
 fn inverse(x: &Pair) -> Pair
     requires { is_zero (pair_parts x.now) ≡ false }
@@ -29,7 +29,7 @@ fn product_of(x: &Pair, y: &Pair) -> Option<Pair>
     Some(norm(&numerator, &denominator))
 }
 
-/// Returns the written product.
+/// Returns the written product, or nothing if it is refused.
 #[tactic(auto, unfolding(crate::specs::Quotients::written_product))]
 pub fn product(x: &Pair, y: &Pair) -> Option<Pair>
     ensures { option_map pair_parts result ≡ written_product (pair_parts x.now) (pair_parts y.now) }
@@ -48,7 +48,7 @@ pub fn product(x: &Pair, y: &Pair) -> Option<Pair>
     }
 }
 
-/// Returns the written quotient. What is 0 stays 0, and nothing is written by 1/1.
+/// Returns the written quotient, or nothing if it is refused. A division of 0 and a division by 1/1 have no written part.
 pub fn quotient(x: &Pair, y: &Pair) -> Option<Pair>
     requires { is_zero (pair_parts y.now) ≡ false }
     ensures { option_map pair_parts result ≡ written_product (pair_parts x.now) (inverse (pair_parts y.now)) }
@@ -71,7 +71,7 @@ fn sum_over(n: &EpsPoly, m: &EpsPoly, d: &EpsPoly) -> Option<Pair>
     Some(norm(&n.checked_add(m)?, d))
 }
 
-/// Returns the written sum over other denominators, whose quotient is e, lowered.
+/// Returns the written sum of two quotients, where `e` is the quotient of their denominators, lowered.
 #[tactic(auto, unfolding(crate::specs::Quotients::sum_of))]
 fn sum_of(x: &Pair, y: &Pair, e: &Pair) -> Option<Pair>
     ensures { option_map pair_parts result ≡ sum_of (pair_parts x.now) (pair_parts y.now) (pair_parts e.now) }
@@ -82,7 +82,7 @@ fn sum_of(x: &Pair, y: &Pair, e: &Pair) -> Option<Pair>
     sum_over(&u, &v, &d)
 }
 
-/// Returns the written sum.
+/// Returns the written sum, or nothing if it is refused.
 #[tactic(auto, unfolding(crate::specs::Quotients::written_sum))]
 pub fn sum(x: &Pair, y: &Pair) -> Option<Pair>
     ensures { option_map pair_parts result ≡ written_sum (pair_parts x.now) (pair_parts y.now) }

@@ -38,11 +38,11 @@ flows_in n c js = do
 unfoldable pub case_flows : Content → List ℕ → Result WrittenEvidence WideStep
 case_flows c = flows_in (numbers_of c) c
 
--- The nets of a case are as they are opened.
+-- The nets of a case are as just opened.
 abbrev pub AreOpened : CaseState → Type 0
 AreOpened (state_of n b) = IsOpened (kind_of n) (graph_in n) (IsProperIn n) b
 
--- The written run of the nets of a case, as they are opened, along a list of hypotheses.
+-- The written run of the nets of a case, as just opened, along a list of hypotheses.
 abbrev pub flows_from : CaseState → List ℕ → Result WrittenEvidence WideStep
 flows_from (state_of n b) js = evidence_run (kind_of n) (graph_in n) (removal_in n) b js
 
@@ -62,25 +62,25 @@ CaseFlowsMeetConditions =
     (c : Content) (js : List ℕ) (v : WrittenEvidence) → IsValidContent c → IsCompleteOrder c js → case_flows c js ≡ Ok v
     → MeetsIn c v.steps v.keeps
 
--- It lists the hypotheses of the order.
+-- This evidence lists the hypotheses of the order.
 abbrev pub CaseFlowsListOrders : Type 0
 CaseFlowsListOrders =
     (c : Content) (js : List ℕ) (v : WrittenEvidence) → IsValidContent c → IsCompleteOrder c js → case_flows c js ≡ Ok v
     → map (λ s. s.hypothesis) v.steps ≡ js
 
--- It keeps all others.
+-- This evidence has keeps for all others.
 abbrev pub CaseFlowsKeepOthers : Type 0
 CaseFlowsKeepOthers =
     (c : Content) (js : List ℕ) (v : WrittenEvidence) → IsValidContent c → IsCompleteOrder c js → case_flows c js ≡ Ok v
     → KeepsOthers (length c.names) (values_in c v.steps v.keeps)
 
--- Its hypotheses are of the case, and its numbers are stored as those of the case.
+-- The hypotheses of this evidence are those of the case, and its numbers are stored as those of the case.
 abbrev pub CaseFlowsAreOfTheCase : Type 0
 CaseFlowsAreOfTheCase =
     (c : Content) (js : List ℕ) (v : WrittenEvidence) → IsValidContent c → IsCompleteOrder c js → case_flows c js ≡ Ok v
     → AreStepsOf c v.steps v.keeps
 
--- The check of a case never finds a broken condition in it.
+-- The check of a case never finds a broken condition in this evidence.
 abbrev pub CaseFlowsAreNotRefused : Type 0
 CaseFlowsAreNotRefused =
     (c : Content) (js : List ℕ) (v : WrittenEvidence) (n : ℕ) (reason : Reason) → IsValidContent c → IsCompleteOrder c js → case_flows c js ≡ Ok v

@@ -1,4 +1,4 @@
--- The text of evidence, line by line, and what it says.
+-- The text of evidence, line by line, and what it denotes.
 use Rattle.std.specs.Prelude.{◌≡◌, ℕ, List, [], ◌∷◌, ◌++◌}
 use Rattle.text_lines.specs.Spelling.{line_spelt}
 use Rattle.text_lines.specs.Faults.{FaultAt}
@@ -16,22 +16,22 @@ line_text words = line_spelt words ++ 10 ∷ []
 
 -- ---- laws
 
--- The text of evidence for a case denotes it.
+-- The text of evidence for a case denotes this evidence.
 abbrev pub EvidenceTextsSayTheirs : Type 0
 EvidenceTextsSayTheirs = (c : Content) (v : Evidence) → IsValidContent c → IsEvidenceFor c v → SaysEvidence c (evidence_text c v) v
 
--- It denotes no other evidence for the case.
+-- The text of evidence for a case denotes no other evidence for the case.
 abbrev pub EvidenceTextsSayNoOther : Type 0
 EvidenceTextsSayNoOther =
     (c : Content) (v w : Evidence) → IsValidContent c → IsEvidenceFor c v → IsEvidenceFor c w → SaysEvidence c (evidence_text c v) w
     → (version_of w ≡ version_of v) × (steps_of w ≡ steps_of v) × (keeps_of w ≡ keeps_of v)
 
--- It has no fault.
+-- The text of evidence for a case has no fault.
 abbrev pub EvidenceTextsHaveNoFault : Type 0
 EvidenceTextsHaveNoFault =
     (c : Content) (v : Evidence) (fault : FaultAt ProofKind) → IsValidContent c → IsEvidenceFor c v → ¬ HasFault c (evidence_text c v) fault
 
--- Evidence of one text is the same.
+-- Evidence with the same text is the same.
 abbrev pub EvidenceTextsTellApart : Type 0
 EvidenceTextsTellApart =
     (c : Content) (v w : Evidence) → IsValidContent c → IsEvidenceFor c v → IsEvidenceFor c w → evidence_text c v ≡ evidence_text c w

@@ -36,11 +36,11 @@ pub record WrittenEvidence : Type 0 where
   pub steps : List StepParts
   pub keeps : List KeepParts
 
--- (denotes a graph past the last one)
+-- (stands for a graph past the last one)
 abbrev pub no_graph : StoredGraph
 no_graph = record { live = []; weights = []; edges = [] }
 
--- (denotes tables past the last ones)
+-- (stands for tables past the last ones)
 abbrev pub no_tables : Tables
 no_tables = record { flows = []; visits = []; exits = [] }
 
@@ -62,7 +62,7 @@ module _ (K : Kind) where
   unfoldable pub recorded : List Tables → List ℕ → ℕ → StepParts
   recorded ts earlier j = record { hypothesis = j; flows = map (λ t. map (numbers_at K t.flows) earlier) ts }
 
-  -- the exits to a hypothesis that is kept, after the steps of `js`
+  -- the keep of a hypothesis: the exits to it, after the steps of `js`
   unfoldable pub kept_exits : List Tables → List ℕ → ℕ → KeepParts
   kept_exits ts js k = record { hypothesis = k; exits = map (λ t. map (numbers_at K (row t.exits k)) js) ts }
 
@@ -72,7 +72,7 @@ module _ (K : Kind) where
       each_below (length ts) (λ c. in_component c (new_tables K (graph_at Gs c) j earlier (tables_at ts c) is_last is_kept))
 
   module _ {S : Type 0} (graph : S → StoredGraph) (removal : S → ℕ → Result S Wide) (is_kept : Bool) where
-    -- a step after the steps of `earlier`: the tables, and then the removal, which the last step leaves out. Exits are written only if a hypothesis is kept.
+    -- a step after the steps of `earlier`: the tables, and then the removal, which the last step leaves out. Exits are written only if there are keeps.
     unfoldable pub flow_step : List ℕ → ℕ → Bool → RunState S → Result (RunState S) WideStep
     flow_step earlier j is_last s = do
       us ← at_step (length earlier + 1) (all_tables (map graph s.bundle.states) s.tables earlier j is_last is_kept)
@@ -87,7 +87,7 @@ module _ (K : Kind) where
       rest ← flow_run (earlier ++ j ∷ []) js t
       Ok (record { steps = recorded s.tables earlier j ∷ rest.steps; tables = rest.tables })
 
-  -- nets as they are opened, with their tables before the first step
+  -- nets as just opened, with their tables before the first step
   abbrev pub opening_state : {S : Type 0} → (S → StoredGraph) → Bundled S → RunState S
   opening_state graph b = record { bundle = b; tables = replicate (length b.states) (first_tables K (size graph b)) }
 

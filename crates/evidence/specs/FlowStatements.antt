@@ -15,7 +15,7 @@ use Rattle.evidence_check.specs.CheckStatements.{evidence_values}
 use Rattle.evidence.specs.FlowRun.{WrittenEvidence, evidence_run}
 
 module _ {S : Type 0} (K : Kind) (graph : S → StoredGraph) (IsProper : S → Type 0) where
-  -- nets as they are opened: all hypotheses remain, and the levels are those of the opening
+  -- nets as just opened: all hypotheses remain, and the levels are those of the opening
   pub record IsOpened (b : Bundled S) : Type 0 where
     pub ready : AreReady K graph IsProper b.states b.shares
     pub levels : opened K graph b.states b.shares ≡ Ok b
@@ -33,7 +33,7 @@ module _ {S : Type 0} (K : Kind) (graph : S → StoredGraph) (IsProper : S → T
         → evidence_run K graph removal b js ≡ Ok v
         → (listed (map (step_values K) v.steps) ≡ js) × AreGoodSteps (graph_by_value b) p level [] (map (step_values K) v.steps)
 
-    -- A run along a complete legal order gives evidence that meets the conditions, and keeps all others.
+    -- A run along a complete legal order gives evidence that meets the conditions, with keeps for all others.
     abbrev pub FlowRunsGiveEvidence : Type 0
     FlowRunsGiveEvidence =
         (b : Bundled S) (p : ℕ → Number) (level : Number) (js : List ℕ) (v : WrittenEvidence) → IsOpened b

@@ -1,6 +1,6 @@
--- The written flow run in one component: which operations are done in a step, in which order and for what. All operands are old values. It keeps what
--- flows through each removed hypothesis, and what each remaining hypothesis sends through each removed one. It also keeps the exits of each removed
--- one to each remaining one (this project's own).
+-- The written flow run in one component: which operations are done in a step, in which order and for what. All operands are old values. The run
+-- records what flows through each removed hypothesis, and what each remaining hypothesis sends through each removed one. It also records the exits
+-- from each removed one to each remaining one (this project's own).
 use Rattle.std.specs.Prelude.{ℕ, List, [], ◌∷◌, ◌++◌, Bool, not, if◌then◌else◌, Option, Some, None, Result, Ok, map, get_or, set, replicate}
 use Rattle.std.specs.List.{range_with_len}
 use Rattle.field_core.specs.declared.place.Op.TheVariants.{Add, Mul, Div}
@@ -12,8 +12,8 @@ use Rattle.removal.specs.StoredGraph.{StoredGraph, size, weight, edge}
 use Rattle.removal.specs.WrittenRemoval.{is_gone, divisor}
 use Rattle.evidence_check.specs.EvidenceParts.{numbers_at}
 
--- What the run keeps of a component: by hypothesis what flows through it, and for each hypothesis `l` a row of what `l` sends through each one. For
--- each hypothesis `k` also a row of the exits of each one to `k`.
+-- What the run records of a component: what flows through each hypothesis, and for each hypothesis `l` a row of what `l` sends through each one.
+-- There is also, for each hypothesis `k`, a row of the exits from each one to `k`.
 pub record Tables : Type 0 where
   pub flows : List Parts
   pub visits : List (List Parts)
@@ -30,7 +30,7 @@ put_each f (r ∷ rs) xs = do
   x ← f r
   put_each f rs (set xs r x)
 
--- nothing is written of what isn't required, which stays
+-- the new value if it is wanted, and else the old one, with nothing written
 abbrev pub if_wanted : {A E : Type 0} → Bool → A → Result A E → Result A E
 if_wanted wanted old new = if wanted then new else Ok old
 
@@ -45,20 +45,20 @@ module _ (K : Kind) where
 
   -- (`G` is the graph before the step, and `j` the hypothesis of the step)
   module _ (G : StoredGraph) (j : ℕ) where
-    -- what flows through `r` now, from the row `zs` of `j` and what flowed before: `y_r + w_j * z_jr`
+    -- what flows through `r` after the step, from the row `zs` of `j` and what flowed before: `y_r + w_j * z_jr`
     unfoldable pub new_flow : List Parts → List Parts → ℕ → Result Parts Wide
     new_flow zs ys r = do
       a ← at (Flow r) Mul (K.written Mul (weight K G j) (numbers_at K zs r))
       at (Flow r) Add (K.written Add (numbers_at K ys r) a)
 
-    -- what `l` sends through `r` now, from the row `zs` of `j`, its own row and what it is divided by: `(z_lr + g_lj * z_jr) / d`
+    -- what `l` sends through `r` after the step, from the row `zs` of `j`, the row of `l` and what it is divided by: `(z_lr + g_lj * z_jr) / d`
     unfoldable pub new_visit : List Parts → List Parts → ℕ → Parts → ℕ → Result Parts Wide
     new_visit zs xs l d r = do
       a ← at (Visit l r) Mul (K.written Mul (edge K G l j) (numbers_at K zs r))
       b ← at (Visit l r) Add (K.written Add (numbers_at K xs r) a)
       at (Visit l r) Div (K.written Div b d)
 
-    -- the exit of `r` to `k` now, from the exits to `j` and those to `k`: `x_rk + x_rj * g_jk`
+    -- the exit from `r` to `k` after the step, from the exits to `j` and those to `k`: `x_rk + x_rj * g_jk`
     unfoldable pub new_exit : List Parts → List Parts → ℕ → ℕ → Result Parts Wide
     new_exit hs xs k r = do
       a ← at (Exit r k) Mul (K.written Mul (numbers_at K hs r) (edge K G j k))
@@ -66,7 +66,7 @@ module _ (K : Kind) where
 
     -- (`earlier` are the hypotheses of the earlier steps, in their order)
     module _ (earlier : List ℕ) where
-      -- what flows through the hypotheses of the earlier steps and of this one
+      -- what flows through each hypothesis after the step: it changes for those of the earlier steps and of this one
       unfoldable pub new_flows : List (List Parts) → List Parts → Result (List Parts) Wide
       new_flows visits ys = put_each (new_flow (row visits j) ys) (earlier ++ j ∷ []) ys
 
@@ -87,8 +87,8 @@ module _ (K : Kind) where
         xs ← put_each (new_exit (row exits j) (row exits k) k) earlier (row exits k)
         Ok (set xs j (edge K G j k))
 
-      -- The tables after the step: first the flows, then the rows by ascending position, neither of them at the last step, and then the exits, if any
-      -- hypothesis is kept.
+      -- The tables after the step: first the flows, then the rows by ascending position, neither of them at the last step, and then the exits, if there
+      -- are keeps.
       unfoldable pub new_tables : Tables → Bool → Bool → Result Tables Wide
       new_tables t is_last is_kept = do
         flows ← if_wanted (not is_last) t.flows (new_flows t.visits t.flows)

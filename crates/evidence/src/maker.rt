@@ -35,7 +35,7 @@ fn hypotheses(alloc: Global, lines: &[StepLine]) -> Result<List<usize>, NoMemory
     Ok(hypotheses)
 }
 
-/// Returns the evidence of the nets of a case as they are opened, along a list of distinct hypotheses.
+/// Returns the evidence of the nets of a case, which were just opened, along a list of distinct hypotheses.
 #[tactic(auto, unfolding(entangled::specs::CaseNetView::case_state))]
 fn evidence_of(
     alloc: Global,
@@ -71,14 +71,14 @@ fn evidence_along(alloc: Global, case: &Case, hypotheses: &[usize]) -> Result<Ev
     evidence_of(alloc, &mut nets, hypotheses)
 }
 
-/// Returns evidence for the decision on a case that has a p-value for each hypothesis. The steps of the decision are a complete
-/// legal order of the case; each decision is one, by the law `decisions_are_complete_orders`.
+/// Returns evidence for the decision on a case that has a p-value for each hypothesis. The steps of the decision must be a complete
+/// legal order of the case; those of each decision are, by the law `decisions_are_complete_orders`.
 ///
-/// The evidence is of version 2. It lists the steps of the decision and keeps all other hypotheses. Its flows and exits are the
-/// numbers of the written flow run. It meets its conditions, so that `check` doesn't find a broken one.
+/// The evidence is of version 2. It lists the steps of the decision and has keeps for all other hypotheses. Its flows and exits are
+/// the numbers of the written flow run. It meets its conditions, so that `check` doesn't find a broken one.
 ///
-/// Unless out of memory, it is `MakeFault::Wide` exactly if the written flow run is undefined, with the step, counted from 1;
-/// step 0 is the opening.
+/// Unless out of memory, the call is refused with `MakeFault::Wide` exactly if the written flow run is undefined, with the step,
+/// counted from 1; step 0 is the opening.
 pub fn make(alloc: Global, case: &Case, decision: &Decision) -> Result<Evidence, MakeFault>
     requires single { IsSingle (content case.now).inputs }
     requires order { IsCompleteOrder (content case.now) (hypotheses decision.now.steps) }

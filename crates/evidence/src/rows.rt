@@ -16,7 +16,7 @@ pub fn number<F: Number>(row: &[F], r: usize) -> F
     if r < row.len() { row[r] } else { F::zero() }
 }
 
-/// Returns a row of a table, and none past the end.
+/// Returns a row of a table, and an empty one past the end.
 pub fn row<F>(table: &List<List<F>>, l: usize) -> &[F]
     ensures { result.now ≡ get_or table.now l [] }
 {
@@ -28,7 +28,7 @@ pub fn row<F>(table: &List<List<F>>, l: usize) -> &[F]
     }
 }
 
-/// Returns a row of zeros of this length.
+/// Returns a row of `count` zeros.
 #[tactic(auto, using(std::proofs::lemmas::List::replicate_more, std::proofs::lemmas::List::map_push))]
 pub fn zeros<F: Number>(alloc: Global, count: usize) -> Result<List<F>, NoMemory>
     ensures { IfOk result (λ row. map F.parts row ≡ replicate count F.kind.zero) }
@@ -40,7 +40,7 @@ pub fn zeros<F: Number>(alloc: Global, count: usize) -> Result<List<F>, NoMemory
     Ok(row)
 }
 
-/// Returns the same row.
+/// Returns a copy of a row.
 pub fn copy<F: Number>(alloc: Global, row: &[F]) -> Result<List<F>, NoMemory>
     ensures { IfOk result (λ copied. copied ≡ row.now) }
 {
@@ -49,7 +49,7 @@ pub fn copy<F: Number>(alloc: Global, row: &[F]) -> Result<List<F>, NoMemory>
     Ok(copied)
 }
 
-/// Puts a number at a place of a row, if it has this place.
+/// Puts a number at a place of a row, if the row has this place.
 pub fn put<F: Number>(row: &mut List<F>, r: usize, number: F)
     ensures { row.new ≡ set row.old r number }
 {
@@ -58,7 +58,7 @@ pub fn put<F: Number>(row: &mut List<F>, r: usize, number: F)
     }
 }
 
-/// Puts what `step` gives for them at places of a row, one after another, up to the first refusal.
+/// Puts at places of a row what `step` gives for them, one after another, up to the first refusal.
 pub fn put_each<F: Number, S: Fn(usize) -> Result<F, Wide>>(
     row: &mut List<F>,
     places: &[usize],

@@ -67,7 +67,7 @@ fn recorded<F: Number>(
     })
 }
 
-/// Returns a hypothesis that is kept, with its exits in each component from the hypotheses of the steps.
+/// Returns the keep of a hypothesis, with its exits in each component from the hypotheses of the steps.
 #[tactic(auto, using(entangled::proofs::Pushes::pushed, entangled::proofs::Pushes::pushed_all, crate::proofs::RunAnswers::kept_is))]
 fn kept<F: Number>(
     alloc: Global,
@@ -135,7 +135,8 @@ fn all_tables<R: Remover>(
     Ok(next)
 }
 
-/// Returns a step after the earlier ones: the tables are made anew, and then, but for the last step, its hypothesis is removed.
+/// Makes a step after the earlier ones, and returns the tables after it. The hypothesis of the step is then removed from the bundle,
+/// unless it is the last step.
 fn step<R: Remover>(
     alloc: Global,
     bundle: &mut Bundle<R>,
@@ -187,7 +188,7 @@ fn opening_tables<R: Remover>(
     Ok(tables)
 }
 
-/// Makes all steps along a list of distinct hypotheses, from the opening on.
+/// Makes all steps along a list of distinct hypotheses, from the opening on, and returns what they give.
 fn run<R: Remover>(
     alloc: Global,
     bundle: &mut Bundle<R>,
@@ -267,8 +268,8 @@ fn keeps<F: Number>(
     Ok(keeps)
 }
 
-/// Returns the evidence of nets as they are opened, along a list of distinct hypotheses: the steps in this order, and
-/// then all other hypotheses, which are kept. It is of version 2.
+/// Returns the evidence of nets that were just opened, along a list of distinct hypotheses: the steps in this order, and then
+/// the keeps of all other hypotheses. It is of version 2.
 pub fn evidence<R: Remover>(
     alloc: Global,
     bundle: &mut Bundle<R>,

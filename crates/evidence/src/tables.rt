@@ -25,8 +25,8 @@ use field_core::{Fault, List, NoMemory, Number, Place, Wide};
 use removal::Remover;
 use std::alloc::Global;
 
-/// What a run keeps of a component: by hypothesis what flows through it, and for each hypothesis a row of what it sends through
-/// each one. For each hypothesis also a row of the exits of each one to it.
+/// What a run records of a component: what flows through each hypothesis, and for each hypothesis a row of what it sends through
+/// each one. There is also, for each hypothesis, a row of the exits from each one to it.
 #[derive(Drop)]
 pub struct Tables<F> {
     pub flows: List<F>,
@@ -34,7 +34,7 @@ pub struct Tables<F> {
     pub exits: List<List<F>>,
 }
 
-/// Whether `l` isn't in once `j` is removed.
+/// Whether `l` doesn't remain once `j` is removed.
 #[tactic(auto, unfolding(removal::specs::WrittenRemoval::is_gone))]
 fn is_gone<R: Remover>(net: &R, j: usize, l: usize) -> bool
     requires { l < size (R.graph (R.present net.now)) }
@@ -43,7 +43,7 @@ fn is_gone<R: Remover>(net: &R, j: usize, l: usize) -> bool
     !net.is_live(l) || l == j
 }
 
-/// Returns what flows through `r` now.
+/// Returns what flows through `r` after the step of `j`.
 #[tactic(auto, unfolding(crate::specs::FlowTables::new_flow))]
 fn new_flow<R: Remover>(
     net: &R,
@@ -64,7 +64,7 @@ fn new_flow<R: Remover>(
     number(flows, r).add(&gain).map_err(|wide| wide.at(place))
 }
 
-/// Returns what flows through the hypotheses of the earlier steps and of this one.
+/// Returns what flows through the hypotheses after the step of `j`: it changes for those of the earlier steps and for `j`.
 #[tactic(auto, unfolding(crate::specs::FlowTables::new_flows))]
 fn new_flows<R: Remover>(
     alloc: Global,
@@ -84,7 +84,7 @@ fn new_flows<R: Remover>(
     Ok(flows)
 }
 
-/// Returns what `l` is divided by; none if all that it sends becomes 0.
+/// Returns what the row of what `l` sends is divided by; `None` if all of the row becomes 0.
 #[tactic(auto, unfolding(removal::specs::WrittenRemoval::is_gone, removal::specs::WrittenRemoval::divisor))]
 fn divisor<R: Remover>(net: &R, j: usize, l: usize) -> Result<Option<R::Value>, Wide>
     requires j { is_live (R.graph (R.present net.now)) j ≡ true }
@@ -104,7 +104,7 @@ fn divisor<R: Remover>(net: &R, j: usize, l: usize) -> Result<Option<R::Value>, 
     Ok(Some(left))
 }
 
-/// Returns what `l` sends through `r` now.
+/// Returns what `l` sends through `r` after the step of `j`.
 #[tactic(auto, unfolding(removal::specs::WrittenRemoval::is_gone, crate::specs::FlowTables::new_visit))]
 fn new_visit<R: Remover>(
     net: &R,
@@ -130,7 +130,7 @@ fn new_visit<R: Remover>(
     merged.div(divisor).map_err(|wide| wide.at(place))
 }
 
-/// Returns the row of what `l` sends, divided by `left`.
+/// Returns the row of what `l` sends after the step of `j`, divided by `left`.
 fn divided_visits<R: Remover>(
     alloc: Global,
     net: &R,
@@ -156,7 +156,7 @@ fn divided_visits<R: Remover>(
     Ok(next)
 }
 
-/// Returns the row of what `l` sends.
+/// Returns the row of what `l` sends after the step of `j`.
 #[tactic(auto, unfolding(crate::specs::FlowTables::new_visits, crate::specs::FlowTables::new_visits_by))]
 fn new_visits<R: Remover>(
     alloc: Global,
@@ -181,7 +181,7 @@ fn new_visits<R: Remover>(
     }
 }
 
-/// Returns the exit of `r` to `k` now.
+/// Returns the exit from `r` to `k` after the step of `j`.
 #[tactic(auto, unfolding(removal::specs::WrittenRemoval::is_gone, crate::specs::FlowTables::new_exit))]
 fn new_exit<R: Remover>(
     net: &R,
@@ -203,7 +203,7 @@ fn new_exit<R: Remover>(
     number(own, r).add(&through).map_err(|wide| wide.at(place))
 }
 
-/// Returns the row of the exits to `k`.
+/// Returns the row of the exits to `k` after the step of `j`.
 #[tactic(auto, unfolding(removal::specs::WrittenRemoval::is_gone, crate::specs::FlowTables::new_exits))]
 fn new_exits<R: Remover>(
     alloc: Global,
@@ -228,7 +228,7 @@ fn new_exits<R: Remover>(
     Ok(next)
 }
 
-/// Returns the rows of what each hypothesis sends.
+/// Returns the rows of what each hypothesis sends after the step of `j`.
 #[tactic(auto, using(crate::proofs::TableAnswers::row_steps))]
 fn all_visits<R: Remover>(
     alloc: Global,
@@ -248,7 +248,7 @@ fn all_visits<R: Remover>(
     Ok(rows)
 }
 
-/// Returns the rows of the exits to each hypothesis.
+/// Returns the rows of the exits to each hypothesis after the step of `j`.
 #[tactic(auto, using(crate::proofs::TableAnswers::row_steps))]
 fn all_exits<R: Remover>(
     alloc: Global,
@@ -294,7 +294,7 @@ fn zero_rows<F: Number>(alloc: Global, size: usize) -> Result<List<List<F>>, NoM
     Ok(rows)
 }
 
-/// Returns the tables of a component of a number of hypotheses before the first step.
+/// Returns the tables of a component of `size` hypotheses before the first step.
 #[tactic(auto, unfolding(crate::specs::FlowTables::first_tables))]
 pub fn first_tables<F: Number>(alloc: Global, size: usize) -> Result<Tables<F>, NoMemory>
     ensures { IfOk result (λ t. tables_of F.parts t ≡ first_tables F.kind size) }
@@ -306,7 +306,7 @@ pub fn first_tables<F: Number>(alloc: Global, size: usize) -> Result<Tables<F>, 
     })
 }
 
-/// Returns the same rows.
+/// Returns a copy of rows.
 #[tactic(auto, using(std::proofs::lemmas::List::take_more, std::proofs::lemmas::List::take_all))]
 fn copy_rows<F: Number>(alloc: Global, rows: &List<List<F>>) -> Result<List<List<F>>, NoMemory>
     ensures { IfOk result (λ copied. copied ≡ rows.now) }
@@ -318,7 +318,7 @@ fn copy_rows<F: Number>(alloc: Global, rows: &List<List<F>>) -> Result<List<List
     Ok(copied)
 }
 
-/// Returns what flows after a step; the last step leaves it.
+/// Returns what flows through each hypothesis after a step; the last step leaves this as it was.
 fn flows_after<R: Remover>(
     alloc: Global,
     net: &R,
@@ -338,7 +338,7 @@ fn flows_after<R: Remover>(
     new_flows(alloc, net, j, earlier, tables)
 }
 
-/// Returns what each hypothesis sends after a step; the last step leaves it.
+/// Returns the rows of what each hypothesis sends after a step; the last step leaves them as they were.
 fn visits_after<R: Remover>(
     alloc: Global,
     net: &R,
@@ -358,7 +358,7 @@ fn visits_after<R: Remover>(
     all_visits(alloc, net, j, earlier, visits)
 }
 
-/// Returns the exits after a step; if no hypothesis is kept they are left.
+/// Returns the rows of the exits after a step; if no hypothesis has a keep, they are left as they were.
 fn exits_after<R: Remover>(
     alloc: Global,
     net: &R,

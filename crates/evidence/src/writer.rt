@@ -135,7 +135,7 @@ fn put_lists<F: WrittenNumber>(
     Ok(())
 }
 
-/// Appends the line of a hypothesis that is rejected.
+/// Appends the line of the step of a hypothesis.
 fn put_rejected<F: WrittenNumber>(
     text: &mut List<u8>,
     case: &Case,
@@ -149,7 +149,7 @@ fn put_rejected<F: WrittenNumber>(
     text.push(b'\n')
 }
 
-/// Appends the line of a hypothesis that is kept.
+/// Appends the line of the keep of a hypothesis.
 fn put_kept<F: WrittenNumber>(
     text: &mut List<u8>,
     case: &Case,
@@ -163,7 +163,7 @@ fn put_kept<F: WrittenNumber>(
     text.push(b'\n')
 }
 
-/// Appends a step after others.
+/// Appends a step after others: its line, and its flows.
 fn put_step<F: WrittenNumber>(
     text: &mut List<u8>,
     case: &Case,
@@ -197,7 +197,7 @@ fn put_steps<F: WrittenNumber>(
     Ok(())
 }
 
-/// Appends a keep.
+/// Appends a keep: its line, and its exits.
 fn put_keep<F: WrittenNumber>(
     text: &mut List<u8>,
     case: &Case,
@@ -258,7 +258,7 @@ fn written<F: WrittenNumber>(
 ///
 /// Its lines are those that `evidence_check::read` reads, in their order, with one blank between words and a line feed after
 /// each line. Numbers are written by `Fraction::print` if the case is plain, and else by `EpsQuotient::print`. The text denotes
-/// this evidence and no other, so `evidence_check::read` gives it back. Nothing is asked of the p-values of the case.
+/// this evidence and no other, so `evidence_check::read` gives it back. Nothing is required of the p-values of the case.
 pub fn write(alloc: Global, case: &Case, proof: &Evidence) -> Result<List<u8>, NoMemory>
     requires { IsEvidenceFor (content case.now) proof.now }
     ensures text { IfOk result (λ text. text ≡ evidence_text (content case.now) proof.now) }

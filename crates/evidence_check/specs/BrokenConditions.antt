@@ -59,7 +59,7 @@ module _ (E : EntangledGraph) (p : ℕ → Number) (level : Number) where
   IsBrokenAmongKeeps js m (x ∷ xs) n reason =
       ((n ≡ m + 1) × IsBrokenKeep js x reason) ⊎ (IsGoodKeep E p level js x × IsBrokenAmongKeeps js (m + 1) xs n reason)
 
-  -- The step or keep with this number is broken for this reason: each before it is good. Keeps count on after the steps.
+  -- The step or keep with this number is broken for this reason, and each before it is good. Keeps are numbered after the steps.
   abbrev pub IsBrokenBy : EvidenceValues → ℕ → Reason → Type 0
   IsBrokenBy v n reason =
       IsBrokenAmongSteps [] v.steps n reason

@@ -30,7 +30,7 @@ use Rattle.evidence_check.specs.CheckSteps.{written_at, numbered, all_below}
 use Rattle.evidence_check.specs.WrittenCheck.{Loaded, written_check}
 use Rattle.evidence_check.specs.CheckStatements.{AreStoredSteps, evidence_values}
 
--- what was given, or 0
+-- the result of an operation, or 0 if it was refused
 abbrev pub given_or : Parts → Result Parts TooWide → Parts
 given_or none (Ok x) = x
 given_or none (Err e) = none
@@ -75,7 +75,7 @@ module _ (n : Numbers) (c : Content) where
 abbrev pub share_in : Content → ℕ → Parts
 share_in c k = single (terms (component_at c.components k).share)
 
--- (and these are of this kind)
+-- (the numbers are of this kind)
 module _ (K : Kind) (n : Numbers) (c : Content) where
   -- the case as it is loaded; what can't be loaded is 0
   unfoldable pub loaded_case : Loaded
@@ -98,12 +98,12 @@ module _ (K : Kind) (n : Numbers) (c : Content) where
 unfoldable pub case_check : Content → List StepParts → List KeepParts → Result (Unit {0}) CheckEventAt
 case_check c = check_in (kind_of (numbers_of c)) (numbers_of c) c
 
--- what a check answers that ended at this step or keep
+-- the answer of a check that an event ended at this step or keep
 abbrev pub verdict_by : ℕ → CheckEvent → Result Verdict CheckWide
 verdict_by n (Broken reason) = Ok (No n reason)
 verdict_by n (Undefined w) = Err (record { step = n; at = w })
 
--- what a check that ended so answers
+-- the answer of a check that ended so: yes if nothing was found
 unfoldable pub verdict_of : Result (Unit {0}) CheckEventAt → Result Verdict CheckWide
 verdict_of (Ok u) = Ok Yes
 verdict_of (Err e) = verdict_by e.number e.event
@@ -126,26 +126,26 @@ CaseChecksAreSound =
     (c : Content) (steps : List StepParts) (keeps : List KeepParts) → IsValidContent c → AreStepsOf c steps keeps
     → case_check c steps keeps ≡ Ok tt → MeetsIn c steps keeps
 
--- If it finds a broken condition, it doesn't.
+-- If the check of a case finds a broken condition, the evidence doesn't meet its conditions.
 abbrev pub CaseChecksAreFair : Type 0
 CaseChecksAreFair =
     (c : Content) (steps : List StepParts) (keeps : List KeepParts) (n : ℕ) (reason : Reason) → IsValidContent c → AreStepsOf c steps keeps
     → case_check c steps keeps ≡ Err (record { number = n; event = Broken reason }) → ¬ MeetsIn c steps keeps
 
--- The condition that it names, by its number and its reason, is broken, and the steps and keeps before it are good.
+-- The condition that the check of a case names, by its number and its reason, is broken, and the steps and keeps before it are good.
 abbrev pub CaseChecksNameBroken : Type 0
 CaseChecksNameBroken =
     (c : Content) (steps : List StepParts) (keeps : List KeepParts) (n : ℕ) (reason : Reason) → IsValidContent c → AreStepsOf c steps keeps
     → case_check c steps keeps ≡ Err (record { number = n; event = Broken reason })
     → IsBrokenBy (entangled c) (number_at (p_values_of c.inputs)) (number_of c.alpha) (values_in c steps keeps) n reason
 
--- If it finds nothing, the closed test of the case rejects each hypothesis that is listed.
+-- If the check of a case finds nothing, the closed test of the case rejects each hypothesis of a step.
 abbrev pub CheckedAreRejected : Type 0
 CheckedAreRejected =
     (c : Content) (steps : List StepParts) (keeps : List KeepParts) (j : ℕ) → IsValidContent c → IsSingle c.inputs → AreStepsOf c steps keeps
     → case_check c steps keeps ≡ Ok tt → IsListed (map (λ s. s.hypothesis) steps) j → IsRejectedIn c j
 
--- And if all others are kept, it rejects no other.
+-- If the check of a case finds nothing and all other hypotheses have keeps, the closed test rejects no other.
 abbrev pub CheckedAreAllRejected : Type 0
 CheckedAreAllRejected =
     (c : Content) (steps : List StepParts) (keeps : List KeepParts) (j : ℕ) → IsValidContent c → IsSingle c.inputs → AreStepsOf c steps keeps

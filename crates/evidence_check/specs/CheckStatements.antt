@@ -1,4 +1,4 @@
--- What the written check says of evidence.
+-- What the outcome of the written check implies for evidence.
 use Rattle.std.specs.Prelude.{◌≡◌, ◌<◌, ℕ, List, map, Ok, Err, All}
 use Rattle.field_core.specs.Exact.{Gives}
 use Rattle.field_core.specs.Kind.{Parts, Kind}
@@ -35,7 +35,7 @@ ChecksAreSound K IsStored =
     → AreStoredSteps K IsStored E.hypotheses steps keeps
     → written_check K L steps keeps ≡ Ok tt → MeetsConditions E L.p L.alpha (evidence_values K steps keeps)
 
--- If it finds a broken condition, it doesn't.
+-- If the written check finds a broken condition, the evidence doesn't meet its conditions.
 abbrev pub ChecksAreFair : (K : Kind) → (Parts → Type 0) → Type 0
 ChecksAreFair K IsStored =
     (L : Loaded) (E : EntangledGraph) (steps : List StepParts) (keeps : List KeepParts) (n : ℕ) (reason : Reason) → IsValidEntangled E

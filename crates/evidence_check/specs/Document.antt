@@ -24,7 +24,7 @@ Lines A = Form Words ProofKind A
 abbrev pub component_numbers : Frame → Quantity → List ℕ → ℕ → Lines (List Parts)
 component_numbers F q js c = each_of (λ j. Line (number_line F q c j)) js
 
--- the same for each component
+-- for each component, a number for each of these hypotheses
 abbrev pub numbers : Frame → Quantity → List ℕ → Lines (List (List Parts))
 numbers F q js = each_of (component_numbers F q js) (range_with_len 0 F.components)
 

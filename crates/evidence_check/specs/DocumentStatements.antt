@@ -49,12 +49,12 @@ HasFault c bytes fault = case_reading c bytes ≡ Err fault
 abbrev pub CasesHaveFrames : Type 0
 CasesHaveFrames = (n : Numbers) (c : Content) → IsFrameFor n c (case_frame n c)
 
--- What is read of a text is what its lines denote.
+-- What is read from a text is what its lines denote.
 abbrev pub ReadingsAreDocuments : Type 0
 ReadingsAreDocuments =
     (T : Frame) (bytes : List ℕ) (said : Said) → (evidence_reading T bytes ≡ Ok said) ↔ IsDocument (document T) (words_seen (rows_of bytes)) said
 
--- And the fault that is read is the first one: it is in the first line with which no document continues; or the lines end too early. This is of each
+-- The fault that is read is the first one: it is in the first line with which no document continues, or the lines end too early. This holds of each
 -- frame with a number that is read from its text.
 abbrev pub FaultsAreFirst : Type 0
 FaultsAreFirst =
@@ -62,12 +62,12 @@ FaultsAreFirst =
     → IsFirstWrong kinds (document T) (words_seen (rows_of bytes)) (end_of bytes)
     × FirstIsFault kinds (document T) (words_seen (rows_of bytes)) (end_of bytes)
 
--- Lines denote one evidence.
+-- Lines denote at most one evidence.
 abbrev pub LinesSayOneEvidence : Type 0
 LinesSayOneEvidence =
     (T : Frame) (rows : List (Seen Words)) (a b : Said) → IsDocument (document T) rows a → IsDocument (document T) rows b → a ≡ b
 
--- What is read of a text for a case is some evidence that fits the case.
+-- What is read from a text for a case is evidence that fits the case.
 abbrev pub ReadingsAreEvidence : Type 0
 ReadingsAreEvidence =
     (c : Content) (bytes : List ℕ) (said : Said) → case_reading c bytes ≡ Ok said → (v : Evidence) × IsEvidenceFor c v × (said ≡ said_of v)
@@ -84,7 +84,7 @@ pub record ArePrinted (T : Frame) (steps : List StepParts) (keeps : List KeepPar
   pub flows : All (λ s. All (All (IsPrinted T)) s.flows) steps
   pub exits : All (λ x. All (All (IsPrinted T)) x.exits) keeps
 
--- The lines of evidence that fits a case denote it, whatever their numbers are.
+-- The lines of evidence that fits a case denote this evidence, whatever their numbers among the lines of a text.
 abbrev pub LinesSayTheirEvidence : Type 0
 LinesSayTheirEvidence =
     (n : Numbers) (c : Content) (T : Frame) (v : ℕ) (ss : List StepParts) (xs : List KeepParts) → IsFrameFor n c T → FitsCase c v ss xs
@@ -98,14 +98,15 @@ StoredNumbersArePrinted = (n : Numbers) (c : Content) (x : Parts) → IsStoredIn
 
 -- ---- where no document continues
 
--- The first fault is in the first line with which no document continues, and isn't that the text ended; or the lines begin a document, and are none.
+-- The first fault is in the first line with which no document continues, and isn't that the text ended. Or the lines only begin a document, and the
+-- fault is that they end.
 abbrev pub FaultsAreWhereNoneGoesOn : Type 0
 FaultsAreWhereNoneGoesOn =
     (c : Content) (bytes : List ℕ) (fault : FaultAt ProofKind) → HasFault c bytes fault
     → ((fault.kind ≢ Ended) × IsWhereNoneGoesOn (document (case_frame (numbers_of c) c)) (words_seen (rows_of bytes)) fault.line)
     ⊎ ((fault ≡ record { line = end_of bytes; kind = Ended }) × IsUnfinished (document (case_frame (numbers_of c) c)) (words_seen (rows_of bytes)))
 
--- A line with which no document continues, where one continues with those before it, is that of the first fault.
+-- If the lines before a line begin some document, and together with it they begin none, the first fault is in this line.
 abbrev pub NoneGoesOnIsFault : Type 0
 NoneGoesOnIsFault =
     (c : Content) (bytes : List ℕ) (number : ℕ) → IsWhereNoneGoesOn (document (case_frame (numbers_of c) c)) (words_seen (rows_of bytes)) number
@@ -117,7 +118,7 @@ NoneGoesOnIsFault =
 abbrev pub evidence_text : Content → Evidence → List ℕ
 evidence_text c v = text_of (evidence_lines (case_frame (numbers_of c) c) (version_of v) (steps_of v) (keeps_of v))
 
--- It denotes the evidence, if its names and numbers are words.
+-- The text of evidence denotes the evidence, if its names and numbers are words.
 abbrev pub EvidenceTextsSayIt : Type 0
 EvidenceTextsSayIt =
     (c : Content) (v : Evidence) → IsEvidenceFor c v → ArePrinted (case_frame (numbers_of c) c) (steps_of v) (keeps_of v)

@@ -33,7 +33,7 @@ abbrev pub inside : List ℕ → Option (List ℕ)
 inside [] = None
 inside (b ∷ bs) = if b == 91 then closed bs else None
 
--- the first of two that is there
+-- the first of two values that is there
 abbrev pub or_else : {A : Type 0} → Option A → Option A → Option A
 or_else (Some x) y = Some x
 or_else None y = y
@@ -54,7 +54,7 @@ lists_in over under = and_then (list_in over) (λ n. and_then (list_in under) (�
 abbrev pub whole_in : List ℕ → Option (List ℤ × List ℤ)
 whole_in text = and_then (whole_of text) (λ z. Some (monomial z 0, one_polynomial))
 
--- the two polynomials of a text, by what depends on both sides of its first slash
+-- the two polynomials of a text, given what is before and after its first slash, if it has one
 abbrev pub by_sides : List ℕ → Option (List ℕ × List ℕ) → Option (List ℤ × List ℤ)
 by_sides text (Some x) = or_else (fraction_in x.0 x.1) (lists_in x.0 x.1)
 by_sides text None = whole_in text
@@ -66,7 +66,7 @@ polynomials_in text = by_sides text (cut 47 text)
 unfoldable pub quotient_in : List ℕ → Option Parts
 quotient_in text = and_then (polynomials_in text) (λ x. if is_zero_integer (lowest x.1) then None else Some (norm x.0 x.1))
 
--- a part passes 2^127 - 1 in size
+-- whether a part passes 2^127 - 1 in size
 abbrev pub has_wide_part : Terms → Bool
 has_wide_part x = nat_le (2 ^ 127) (unsigned_abs x.num) || nat_le (2 ^ 127) (unsigned_abs x.den)
 

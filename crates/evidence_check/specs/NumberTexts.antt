@@ -31,12 +31,12 @@ pub record IsPlainTextOf (text : List ℕ) (x : Parts) : Type 0 where
   pub says : IsTextOf text quotient
   pub constant : IsConstantOf quotient x
 
--- the text of a number of a case: of a quotient, and in a plain case of a fraction without brackets
+-- the text denotes this number of a case: a quotient, or, if the case is plain, a fraction without brackets
 abbrev pub IsNumberText : Numbers → List ℕ → Parts → Type 0
 IsNumberText in_fractions text x = IsPlainTextOf text x
 IsNumberText in_quotients text x = IsTextOf text x
 
--- what is found is the number of a text, and nothing is found if it has none
+-- what is found is the number that the text denotes, and nothing is found if it denotes none
 abbrev pub IsNumberOf : Numbers → List ℕ → Option Parts → Type 0
 IsNumberOf n text None = (x : Parts) → ¬ IsNumberText n text x
 IsNumberOf n text (Some x) = IsNumberText n text x

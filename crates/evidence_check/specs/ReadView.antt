@@ -18,7 +18,7 @@ use Rattle.evidence_check.specs.Document.{Said, Lines}
 use Rattle.evidence_check.specs.EvidenceView.{step_parts, keep_parts}
 use Rattle.evidence_check.specs.NumberTexts.{IsNumberOf}
 
--- a frame says what there is in a case, in these numbers
+-- the frame has the names, the components and the numbers of the case `c`, in the numbers `n`
 pub record IsFrameFor (n : Numbers) (c : Content) (T : Frame) : Type 0 where
   pub name : (j : ℕ) → j < length c.names → T.name j ≡ get_or c.names j []
   pub position : (name : List ℕ) → T.position name ≡ position_of name c.names

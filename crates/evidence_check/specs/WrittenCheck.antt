@@ -31,18 +31,18 @@ pub record Loaded : Type 0 where
   pub p : ℕ → Number
   pub alpha : Number
 
--- above 0
+-- whether a number is above 0
 unfoldable pub is_above_zero : Number → Bool
 is_above_zero x = not (at_most x number_zero)
 
 module _ (K : Kind) where
-  -- a sum with the product of two: the product is written, and then the sum with it
+  -- a sum plus the product of two numbers: the product is written, and then the sum
   unfoldable pub with_product : ℕ → Place → Parts → Parts → Parts → Result Parts CheckEvent
   with_product c place sum x y = do
     product ← written_at c place (or_wide Mul (K.written Mul x y))
     written_at c place (or_wide Add (K.written Add sum product))
 
-  -- `start`, and then the products of the first `n` of `f` and `g` added to it one after another, each in its component
+  -- `start` plus the products of the first `n` values of `f` and `g`, added one after another, each in its component
   unfoldable pub added : (ℕ → ℕ) → Place → Parts → (ℕ → Parts) → (ℕ → Parts) → ℕ → Result Parts CheckEvent
   added component place start f g zero = Ok start
   added component place start f g (suc n) = do
@@ -53,7 +53,7 @@ module _ (K : Kind) where
 unfoldable pub shared_sum : Loaded → ℕ → List Parts → Result Parts CheckEvent
 shared_sum L k limits = added plain (λ c. c) (Level k) plain.zero L.share (numbers_at plain limits) L.components
 
--- the level of `k` by the limits that `f` gives in the components, once all are there
+-- the level of `k` by the limits that `f` gives in the components, all of which come before the sum
 unfoldable pub level_by : Loaded → ℕ → (ℕ → Result Parts CheckEvent) → Result Parts CheckEvent
 level_by L k f = do
   limits ← each_below L.components f
@@ -63,7 +63,7 @@ module _ (K : Kind) (L : Loaded) where
   module _ (js : List ℕ) where
     -- ---- a step after steps of these hypotheses
 
-    -- in a component, what flows bring to `k`
+    -- in a component, the weight of `k` plus what flows bring to `k`
     unfoldable pub brought_sum : Place → (ℕ → Parts) → ℕ → ℕ → Result Parts CheckEvent
     brought_sum place y k c = added K (λ _. c) place (L.weight c k) y (λ e. L.edge c (at_place js e) k) (length js)
 
@@ -75,7 +75,7 @@ module _ (K : Kind) (L : Loaded) where
       order ← written_at c (Bound (at_place js r)) (K.compare (y r) sum)
       require (is_le order) (Exceeds c r)
 
-    -- in a component, the limit of what flows bring to `j`
+    -- in a component, the limit of the weight of `j` plus what flows bring to `j`
     unfoldable pub level_limit : (ℕ → Parts) → ℕ → ℕ → Result Parts CheckEvent
     level_limit y j c = ok_map (λ x. single (limit_terms x)) (brought_sum (Level j) y j c)
 
@@ -135,7 +135,7 @@ module _ (K : Kind) (L : Loaded) where
     _ ← numbered (n + 1) (keep_check js x)
     keeps_check js (n + 1) xs
 
-  -- The written check: all steps, and then all keeps. It is Ok, or the first event with its number.
+  -- The written check: all steps, and then all keeps. Its outcome is Ok, or the first event with its number.
   unfoldable pub written_check : List StepParts → List KeepParts → Result (Unit {0}) CheckEventAt
   written_check steps keeps = do
     js ← steps_check [] steps

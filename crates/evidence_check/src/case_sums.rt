@@ -18,7 +18,7 @@ use case_model::Case;
 use case_numbers::CaseNumber;
 use field_core::{Number, Place};
 
-/// Returns the hypothesis of a step; if the steps are of distinct hypotheses, it is one of them.
+/// Returns the hypothesis of the step at place `e`. If the steps are of distinct hypotheses below some number, so is the result.
 #[tactic(auto, unfolding(crate::specs::Evidence::at_place))]
 pub fn hypothesis<F>(steps: &[ProofStep<F>], e: usize) -> usize
     requires { e < length steps.now }
@@ -69,7 +69,7 @@ pub fn number<F: Number>(numbers: &[F], e: usize) -> F
     numbers[e]
 }
 
-/// Returns, in a component, what flows through the hypotheses of earlier steps bring to `k`.
+/// Returns the weight of `k` in a component plus what flows through the hypotheses of earlier steps bring to `k`.
 #[tactic(auto, unfolding(crate::specs::WrittenCheck::brought_sum))]
 pub fn brought<F: CaseNumber>(
     case: &Case,
@@ -97,7 +97,7 @@ pub fn brought<F: CaseNumber>(
     )
 }
 
-/// Returns, in a component, what leaves the hypothesis of the step at place `r` for `k`, directly and by way of exits.
+/// Returns what leaves, in a component, the hypothesis of the step at place `r` for `k`, directly and by way of exits.
 #[tactic(auto, unfolding(crate::specs::WrittenCheck::leaving_sum))]
 pub fn leaving<F: CaseNumber>(
     case: &Case,
@@ -126,7 +126,7 @@ pub fn leaving<F: CaseNumber>(
     )
 }
 
-/// Returns, in a component, the weight that exits allow to `k`.
+/// Returns the weight that, in a component, the exits allow `k` to have at most.
 #[tactic(auto, unfolding(crate::specs::WrittenCheck::allowed_sum))]
 pub fn allowed<F: CaseNumber>(
     case: &Case,

@@ -24,7 +24,7 @@ use crate::{CheckWide, Evidence, KeepProof, ProofStep, Steps, Verdict};
 use case_model::Case;
 use case_numbers::CaseNumber;
 
-/// Returns an event, if there is one, with the number of its step or keep.
+/// Returns the outcome of a step or keep, an event with the number of that step or keep.
 #[tactic(auto, unfolding(crate::specs::CheckSteps::numbered))]
 fn numbered(number: usize, checked: Result<(), CheckEvent>) -> Result<(), CheckEventAt>
     ensures { result ≡ numbered number checked }
@@ -35,7 +35,7 @@ fn numbered(number: usize, checked: Result<(), CheckEvent>) -> Result<(), CheckE
     }
 }
 
-/// Returns what a check that ended so answers.
+/// Returns the answer of a check that ended so: yes if nothing was found, no with a broken condition, or the undefined operation.
 #[tactic(auto, unfolding(crate::specs::CaseCheck::verdict_of))]
 pub fn verdict(checked: Result<(), CheckEventAt>) -> Result<Verdict, CheckWide>
     ensures { result ≡ verdict_of checked }
@@ -49,7 +49,7 @@ pub fn verdict(checked: Result<(), CheckEventAt>) -> Result<Verdict, CheckWide>
     }
 }
 
-/// Tests the conditions on all steps, in their order. If they are met, the steps are of distinct hypotheses.
+/// Tests the conditions on all steps, in their order, up to the first event. If none comes, the steps are of distinct hypotheses.
 pub fn steps<F: CaseNumber>(case: &Case, steps: &[ProofStep<F>]) -> Result<(), CheckEventAt>
     requires single { IsSingle (content case.now).inputs }
     requires below { All (λ s. s.hypothesis < length (content case.now).names) (map (step_parts F.parts) steps.now) }
@@ -66,7 +66,7 @@ pub fn steps<F: CaseNumber>(case: &Case, steps: &[ProofStep<F>]) -> Result<(), C
     Ok(())
 }
 
-/// Tests the conditions on all keeps, in their order, after this number of steps.
+/// Tests the conditions on all keeps, in their order, up to the first event. Keeps are numbered after the steps.
 pub fn keeps<F: CaseNumber>(
     case: &Case,
     steps: &[ProofStep<F>],
@@ -86,7 +86,7 @@ pub fn keeps<F: CaseNumber>(
     Ok(())
 }
 
-/// Checks evidence, in these numbers. The loading of the case is step 0.
+/// Checks evidence in the numbers `F`: loads the case, as step 0, and then tests the steps and the keeps, up to the first event.
 fn checked<F: EvidenceNumber>(case: &Case, proof: &Steps<F>) -> Result<(), CheckEventAt>
     requires single { IsSingle (content case.now).inputs }
     requires runs { CanRunIn F.numbers (content case.now) }
@@ -103,7 +103,7 @@ fn checked<F: EvidenceNumber>(case: &Case, proof: &Steps<F>) -> Result<(), Check
     keeps(case, listed, kept)
 }
 
-/// Checks evidence for a case.
+/// Checks evidence for a case, in the numbers of the evidence, up to the first event.
 fn checked_for(case: &Case, proof: &Evidence) -> Result<(), CheckEventAt>
     requires single { IsSingle (content case.now).inputs }
     requires fits { IsEvidenceFor (content case.now) proof.now }
@@ -117,10 +117,13 @@ fn checked_for(case: &Case, proof: &Evidence) -> Result<(), CheckEventAt>
 
 /// Checks evidence by its conditions, for a case that has a p-value for each hypothesis.
 ///
-/// The conditions are tried in their order: those on each step, and then those on each keep. It is `Verdict::No` exactly if a
-/// broken condition comes first, `CheckWide` exactly if a written operation does that is undefined, and `Verdict::Yes` exactly
-/// if neither comes. A yes implies that the closed test rejects each hypothesis of a step, and in version 2 that it rejects no
-/// other. The call takes no memory and removes nothing.
+/// The conditions are tested in their order: those on each step, and then those on each keep. The answer is
+/// - `Verdict::No` exactly if a broken condition comes first,
+/// - `CheckWide` exactly if an undefined written operation comes first,
+/// - `Verdict::Yes` exactly if neither comes.
+///
+/// A yes implies that the closed test rejects each hypothesis of a step, and in version 2 that it rejects no other. The call takes
+/// no memory and removes nothing.
 pub fn check(case: &Case, proof: &Evidence) -> Result<Verdict, CheckWide>
     requires single { IsSingle (content case.now).inputs }
     requires fits { IsEvidenceFor (content case.now) proof.now }

@@ -122,7 +122,7 @@ fn next_step(lines: &mut Ahead, case: &Case) -> Result<Option<usize>, ProofText>
     }
 }
 
-/// Reads what follows the line of a step after others.
+/// Reads the flows that follow the line of a step, one through the hypothesis of each earlier step in each component.
 fn step<F: EvidenceNumber>(
     alloc: Global,
     lines: &mut Ahead,
@@ -177,7 +177,7 @@ fn keep_line<F: EvidenceNumber>(
     }
 }
 
-/// Reads the keep of a hypothesis.
+/// Reads the keep of a hypothesis: its line, and its exits.
 fn keep<F: EvidenceNumber>(
     alloc: Global,
     lines: &mut Ahead,
@@ -262,7 +262,7 @@ pub fn end(lines: &mut Ahead) -> Result<(), ProofText>
     }
 }
 
-/// Refuses a line after those taken so far.
+/// Refuses a text of which a line is left.
 pub fn nothing_after(lines: &Ahead) -> Result<(), ProofText>
     ensures { result ≡ told_as proof_fault (all_read kinds tt (words_seen lines.now.rows)) }
 {

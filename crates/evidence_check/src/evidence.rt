@@ -10,14 +10,14 @@ pub struct ProofStep<F> {
     pub flows: List<List<F>>,
 }
 
-/// A hypothesis that is kept, and for each component its exit from the hypothesis of each step.
+/// A keep: a retained hypothesis, and for each component its exit from the hypothesis of each step.
 #[derive(Drop)]
 pub struct KeepProof<F> {
     pub hypothesis: usize,
     pub exits: List<List<F>>,
 }
 
-/// The steps in their order, and in version 2 the other hypotheses, which are kept, ascending. Version 1 keeps none.
+/// The steps in their order, and in version 2 a keep for each other hypothesis, ascending. Version 1 has no keeps.
 #[derive(Drop)]
 pub struct Steps<F> {
     pub version: u8,

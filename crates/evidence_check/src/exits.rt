@@ -26,7 +26,7 @@ use case_numbers::CaseNumber;
 use field_core::{List, Number, Place};
 use fraction::Fraction;
 
-/// Tests, in a component, the conditions on the exit to `k` from the hypothesis of a step.
+/// Tests the conditions on the exit, in a component, to `k` from the hypothesis of the step at place `r`.
 fn exit<F: CaseNumber>(
     case: &Case,
     steps: &[ProofStep<F>],
@@ -51,7 +51,7 @@ fn exit<F: CaseNumber>(
     require(order.is_le(), Reason::ShortExit(c, r))
 }
 
-/// Tests, in a component, the conditions on the exits to `k` from the hypotheses of all steps.
+/// Tests the conditions on the exits, in a component, to `k` from the hypotheses of all steps.
 pub fn exits<F: CaseNumber>(
     case: &Case,
     steps: &[ProofStep<F>],
@@ -71,7 +71,8 @@ pub fn exits<F: CaseNumber>(
     all_below(steps.len(), |r| exit(case, steps, c, exits, k, r))
 }
 
-/// Returns, in a component, the limit of the weight that exits allow to `k`, which is at most 1. The exits aren't below 0.
+/// Returns the limit of the weight that, in a component, the exits allow `k` to have at most. The exits aren't below 0. A weight
+/// above 1 is refused with `AboveOne`.
 pub fn limit<F: CaseNumber>(
     case: &Case,
     steps: &[ProofStep<F>],

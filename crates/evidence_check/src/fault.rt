@@ -4,8 +4,7 @@ use field_core::NoMemory;
 /// What is wrong with a line of evidence.
 #[derive(Clone, Copy, PartialEq, Eq, Debug)]
 pub enum ProofKind {
-    /// The first word isn't one that may be here, or the name of a `keep` isn't the one that must, or the line is after
-    /// `end`.
+    /// The first word isn't allowed here, or the name of a `keep` isn't the one that must be here, or the line is after `end`.
     Unexpected,
     /// The document ends before `end`.
     Ended,

@@ -11,21 +11,21 @@ use crate::{Evidence, KeepProof, ProofStep, Steps};
 use case_model::Case;
 use field_core::{List, Number};
 
-/// Whether each component has this number of numbers.
+/// Whether each component has `count` numbers.
 fn are_counted<F>(count: usize, lists: &List<List<F>>) -> bool
     ensures { result ≡ list_all (λ ys. length ys == count) lists.now }
 {
     lists.iter().all(|numbers| numbers.len() == count)
 }
 
-/// Whether there are this number of components, each with this number of numbers.
+/// Whether there are `components` components, each with `count` numbers.
 fn are_full<F: Number>(components: usize, count: usize, lists: &List<List<F>>) -> bool
     ensures { IsTrue result ↔ AreFull components count (map (map F.parts) lists.now) }
 {
     lists.len() == components && are_counted(count, lists)
 }
 
-/// Whether a step after this number of others has a hypothesis of the case, and all its flows.
+/// Whether a step after `earlier` others has a hypothesis of the case, and all its flows.
 fn step_fits<F: Number>(case: &Case, earlier: usize, step: &ProofStep<F>) -> bool
     ensures { IsTrue result ↔ ((step.now.hypothesis < length (content case.now).names)
         × AreFull (length (content case.now).components) earlier (map (map F.parts) step.now.flows)) }
@@ -46,7 +46,7 @@ fn steps_fit<F: Number>(case: &Case, steps: &[ProofStep<F>]) -> bool
     true
 }
 
-/// Whether a keep after this number of steps has a hypothesis of the case, and all its exits.
+/// Whether a keep after `steps` steps has a hypothesis of the case, and all its exits.
 fn keep_fits<F: Number>(case: &Case, steps: usize, keep: &KeepProof<F>) -> bool
     ensures { IsTrue result ↔ ((keep.now.hypothesis < length (content case.now).names)
         × AreFull (length (content case.now).components) steps (map (map F.parts) keep.now.exits)) }
@@ -86,7 +86,7 @@ fn are_others<F>(m: usize, steps: &[ProofStep<F>], keeps: &[KeepProof<F>]) -> bo
     kept == keeps.len()
 }
 
-/// Whether steps and keeps are for a case, whatever their numbers are.
+/// Whether steps and keeps fit a case, whatever their numbers are.
 fn fits_case<F: Number>(case: &Case, proof: &Steps<F>) -> bool
     ensures { IsTrue result ↔ FitsCase (content case.now) proof.now.version (map (step_parts F.parts) proof.now.steps)
         (map (keep_parts F.parts) proof.now.keeps) }
@@ -103,9 +103,11 @@ fn fits_case<F: Number>(case: &Case, proof: &Steps<F>) -> bool
     }
 }
 
-/// Whether evidence is for a case, as `check` requires. It has the form of the case, and its hypotheses are those of the case.
-/// In each component, each step has a flow through the hypothesis of each earlier step, and each keep an exit from that of each
-/// step. Version 1 keeps none, and version 2 all hypotheses that no step names, ascending. It takes no memory.
+/// Whether evidence fits a case, as `check` requires. The call takes no memory. All of these must hold:
+/// - The evidence is in fractions if the case is plain, and else in quotients, and its hypotheses are those of the case.
+/// - In each component, each step has a flow through the hypothesis of each earlier step, and each keep an exit from that of
+///   each step.
+/// - Version 1 has no keeps, and version 2 a keep for each hypothesis that no step names, ascending.
 pub fn fits(case: &Case, proof: &Evidence) -> bool
     ensures { IsTrue result ↔ IsEvidenceFor (content case.now) proof.now }
 {

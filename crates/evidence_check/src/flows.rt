@@ -17,7 +17,7 @@ use case_model::Case;
 use case_numbers::CaseNumber;
 use field_core::{List, Number, Place};
 
-/// Tests, in a component, the conditions on the flow through the hypothesis of an earlier step.
+/// Tests the conditions on the flow, in a component, through the hypothesis of the earlier step at place `r`.
 #[tactic(auto, unfolding(crate::specs::WrittenCheck::flow_check))]
 fn flow<F: CaseNumber>(
     case: &Case,
@@ -51,7 +51,7 @@ pub fn in_component<F: Number>(lists: &List<List<F>>, c: usize) -> &[F]
     lists.as_slice()[c].as_slice()
 }
 
-/// Tests, in a component, the conditions on the flows through the hypotheses of earlier steps.
+/// Tests the conditions on the flows, in a component, through the hypotheses of earlier steps.
 pub fn flows<F: CaseNumber>(
     case: &Case,
     earlier: &[ProofStep<F>],

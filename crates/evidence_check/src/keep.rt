@@ -25,7 +25,7 @@ use case_numbers::CaseNumber;
 use field_core::List;
 use fraction::Fraction;
 
-/// Returns the level that exits, none of which is below 0, allow to `k`.
+/// Returns the level that the exits, none of which is below 0, allow `k` to have at most, or the first event.
 fn keep_level<F: CaseNumber>(
     case: &Case,
     steps: &[ProofStep<F>],
@@ -45,7 +45,7 @@ fn keep_level<F: CaseNumber>(
     level(case, k, |c| limit(case, steps, lists, k, c))
 }
 
-/// Tests the conditions on a keep after all steps, in their order.
+/// Tests the conditions on a keep after all steps, in their order, up to the first event.
 pub fn keep<F: CaseNumber>(
     case: &Case,
     steps: &[ProofStep<F>],

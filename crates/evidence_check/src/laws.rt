@@ -17,8 +17,8 @@ ghost use Rattle.evidence_check.specs.DocumentStatements.{FaultsAreWhereNoneGoes
 
 use field_core::Number;
 
-/// Evidence that meets its conditions lists a legal order, so the closed test rejects each hypothesis that it lists. If it
-/// keeps all others, the closed test rejects no other.
+/// Evidence that meets its conditions lists a legal order, so the closed test rejects each hypothesis that it lists. If the
+/// evidence has keeps for all others, the closed test rejects no other.
 pub fn evidence_implies_rejections()
     ensures order { EvidenceListsLegalOrders }
     ensures rejected { EvidenceListsRejections }
@@ -26,7 +26,8 @@ pub fn evidence_implies_rejections()
     ensures decides { EvidenceWithKeepsDecides }
 {}
 
-/// If the written check finds nothing, the evidence meets its conditions, and if it finds a broken condition, it doesn't.
+/// If the written check finds nothing, the evidence meets its conditions, and if it finds a broken condition, the evidence
+/// doesn't.
 pub fn checks_decide<F: Number>()
     ensures sound { ChecksAreSound F.kind F.IsStored }
     ensures fair { ChecksAreFair F.kind F.IsStored }
@@ -40,8 +41,8 @@ pub fn case_checks_decide()
     ensures named { CaseChecksNameBroken }
 {}
 
-/// If the check of a case finds nothing, the closed test rejects each hypothesis that is listed. If all others are kept, it
-/// rejects no other.
+/// If the check of a case finds nothing, the closed test rejects each hypothesis of a step. If all others have keeps, it rejects
+/// no other.
 pub fn checked_hypotheses_are_rejected()
     ensures listed { CheckedAreRejected }
     ensures all { CheckedAreAllRejected }
@@ -52,8 +53,8 @@ pub fn cases_have_frames()
     ensures { CasesHaveFrames }
 {}
 
-/// What is read of a text is what its lines denote. Else its first fault is in the first line with which no document continues, or
-/// the text ends too early. What is read for a case is some evidence that fits the case.
+/// What is read from a text is what its lines denote. If they denote nothing, the first fault is in the first line with which no
+/// document continues, or the text ends too early. What is read for a case is evidence that fits the case.
 pub fn readings_are_documents()
     ensures says { ReadingsAreDocuments }
     ensures fault { FaultsAreFirst }
@@ -65,8 +66,8 @@ pub fn lines_say_one_evidence()
     ensures { LinesSayOneEvidence }
 {}
 
-/// The lines of evidence that fits a case denote it, if each number is read from its text, and stored numbers are. So does its
-/// text, if names and numbers are words.
+/// The lines of evidence that fits a case denote this evidence, if each number is read from its text; stored numbers are. If
+/// names and numbers are words, the text of the evidence denotes it too.
 pub fn lines_say_their_evidence()
     ensures lines { LinesSayTheirEvidence }
     ensures numbers { StoredNumbersArePrinted }

@@ -19,7 +19,7 @@ use case_model::{Case, passes};
 use field_core::{Number, Place, try_fill};
 use fraction::Fraction;
 
-/// Returns the sum of the shares times limits, as the level of `k`.
+/// Returns the level of `k`: the written sum of the shares, each times the limit in its component.
 fn shared_sum(case: &Case, k: usize, limits: &[Fraction]) -> Result<Fraction, CheckEvent>
     requires { length limits.now ≡ length (content case.now).components }
     ensures { (K : Kind) (n : Numbers) → ok_map fraction_parts result ≡ shared_sum (loaded_case K n
@@ -32,8 +32,8 @@ fn shared_sum(case: &Case, k: usize, limits: &[Fraction]) -> Result<Fraction, Ch
     Ok(sum)
 }
 
-/// Returns the level of `k` by the limits that `limit` gives in the components, once all are there. They are written to
-/// `limits`.
+/// Returns the level of `k` by the limits that `limit` gives in the components. All of them are written to `limits` before the
+/// sum is computed.
 fn level_in<L: Fn(usize) -> Result<Fraction, CheckEvent>>(
     case: &Case,
     k: usize,
@@ -51,7 +51,7 @@ fn level_in<L: Fn(usize) -> Result<Fraction, CheckEvent>>(
     shared_sum(case, k, limits)
 }
 
-/// Returns the level of `k` by the limits that `limit` gives in the components, once all are there.
+/// Returns the level of `k` by the limits that `limit` gives in the components. All of them are computed before the sum.
 pub fn level<L: Fn(usize) -> Result<Fraction, CheckEvent>>(
     case: &Case,
     k: usize,

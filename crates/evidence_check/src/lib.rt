@@ -2,9 +2,9 @@
 //!
 //! Proved:
 //! - `check`: `answer` (the verdict is that of the written check: yes, or the first broken condition, or the first undefined
-//!   sum). `yes` and `no` (yes only if all conditions hold, no only if they don't). `rejected` (a yes implies that the closed
-//!   test rejects each listed hypothesis). `all` (if each other hypothesis is kept, a yes implies that it rejects no other). It
-//!   removes no hypothesis and takes no memory.
+//!   operation). `yes` and `no` (yes only if all conditions hold, no only if they don't). `rejected` (a yes implies that the
+//!   closed test rejects each listed hypothesis). `all` (if each other hypothesis has a keep, a yes implies that the closed test
+//!   rejects no other). The check removes no hypothesis and takes no memory.
 //! - `read`: `read` (the evidence that the document denotes, or the first line that isn't allowed, with its kind; one function,
 //!   `case_reading`, defines both). `fits` (the evidence fits the case).
 //! - Laws in `src/laws.rt`: evidence that meets its conditions lists a legal order, and with all keeps a complete one, whoever

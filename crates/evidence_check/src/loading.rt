@@ -21,14 +21,14 @@ use eps_quotient::EpsQuotient;
 use field_core::Place;
 use fraction::Fraction;
 
-/// Whether there is a bracket that opens.
+/// Whether a text has an opening bracket.
 fn has_bracket(text: &[u8]) -> bool
     ensures { result ≡ list_any (λ b. b == 91) text.now }
 {
     text.iter().any(|byte| *byte == b'[')
 }
 
-/// Returns the constant of a quotient as a fraction.
+/// Returns the fraction of the coefficients of power 0 of a quotient, if there is one within its size.
 fn constant(quotient: &EpsQuotient) -> Option<Fraction>
     ensures { option_map fraction_parts result ≡ constant_fraction (quotient_parts quotient.now) }
 {
@@ -43,7 +43,7 @@ pub trait EvidenceNumber: CaseNumber {
     fn read(text: &[u8]) -> Option<Self>
         ensures { option_map Self.parts result ≡ number_in_text Self.numbers text.now };
 
-    /// What a case is loaded in is what they store.
+    /// The numbers that a case is loaded in can be stored.
     ghost stored_is: { (x : Parts) → IsStoredIn Self.numbers x → Self.IsStored x };
 }
 

@@ -16,7 +16,7 @@ use crate::{ProofKind, Quantity};
 use case_model::Case;
 use text_lines::Line;
 
-/// Returns the version.
+/// Returns the version that a line denotes.
 pub fn version(line: &Line) -> Result<u8, ProofKind>
     ensures { result ≡ expected kinds (version_line (words_of line.now.text.now)) }
 {
@@ -61,7 +61,7 @@ fn is_component(word: &[u8], c: usize) -> bool
     word == [b'1' + c as u8].as_slice()
 }
 
-/// Returns the number of a component and of the hypothesis of this name.
+/// Returns the number of a line for this component and the hypothesis of this name.
 pub fn number<F: EvidenceNumber>(
     line: &Line,
     quantity: Quantity,
@@ -88,7 +88,7 @@ pub fn number<F: EvidenceNumber>(
     }
 }
 
-/// Reads the keep of the hypothesis of this name.
+/// Checks that a line is that of the keep of the hypothesis of this name.
 pub fn keep(line: &Line, name: &[u8]) -> Result<(), ProofKind>
     ensures said { (T : Frame) (h : ℕ) → T.name h ≡ name.now
         → ok_map (λ _. h) result ≡ expected kinds (keep_line T h (words_of line.now.text.now)) }
@@ -106,7 +106,7 @@ pub fn keep(line: &Line, name: &[u8]) -> Result<(), ProofKind>
     }
 }
 
-/// Reads the end.
+/// Checks that a line is that of the end.
 pub fn end(line: &Line) -> Result<(), ProofKind>
     ensures { result ≡ expected kinds (end_line (words_of line.now.text.now)) }
 {

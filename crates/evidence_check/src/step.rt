@@ -33,8 +33,8 @@ pub fn is_listed<F>(steps: &[ProofStep<F>], j: usize) -> bool
     steps.iter().any(|step| step.hypothesis == j)
 }
 
-/// Returns, in a component, the limit of what flows bring to `k`, which no earlier step names. The flows meet their conditions,
-/// so what they bring is from 0 to 1.
+/// Returns the limit of the weight of `k` in a component plus what flows bring to `k`, which no earlier step names. The flows meet
+/// their conditions, so this is from 0 to 1.
 fn limit<F: CaseNumber>(
     case: &Case,
     earlier: &[ProofStep<F>],
@@ -59,7 +59,7 @@ fn limit<F: CaseNumber>(
     Ok(Fraction::of(sum.limit()))
 }
 
-/// Returns the level of `k` by flows, which meet their conditions.
+/// Returns the level of `k` by flows that meet their conditions, or the undefined operation.
 fn step_level<F: CaseNumber>(
     case: &Case,
     earlier: &[ProofStep<F>],
@@ -81,7 +81,7 @@ fn step_level<F: CaseNumber>(
     level(case, k, |c| limit(case, earlier, lists, k, c))
 }
 
-/// Tests the conditions on a step after earlier ones, in their order.
+/// Tests the conditions on a step after earlier ones, in their order, up to the first event.
 pub fn step<F: CaseNumber>(
     case: &Case,
     earlier: &[ProofStep<F>],

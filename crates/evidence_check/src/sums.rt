@@ -11,7 +11,7 @@ use crate::event::CheckEvent;
 use field_core::{Number, Place, TooWide};
 use std::cmp::Ordering;
 
-/// Returns the reason if a test of a condition fails.
+/// Returns the event that a condition is broken, for this reason, if its test failed.
 #[tactic(auto, unfolding(crate::specs::CheckSteps::require))]
 pub fn require(test: bool, reason: Reason) -> Result<(), CheckEvent>
     ensures { result ≡ require test reason }
@@ -47,7 +47,7 @@ pub fn is_nonnegative<F: Number>(x: &F) -> bool
     x.sign() != Ordering::Less
 }
 
-/// Returns a written operation, in a component and at a place.
+/// Returns the result of a written operation, a refusal as an event that names the component and the place.
 #[tactic(auto, unfolding(crate::specs::CheckSteps::written_at))]
 pub fn placed<A>(
     component: usize,
@@ -62,7 +62,7 @@ pub fn placed<A>(
     }
 }
 
-/// Returns a sum with the product of two.
+/// Returns a sum plus the product of two numbers: the product is written, and then the sum.
 pub fn with_product<F: Number>(
     component: usize,
     place: Place,
@@ -76,7 +76,7 @@ pub fn with_product<F: Number>(
     placed(component, place, sum.add(&product))
 }
 
-/// Returns a start, and the products of what `x` and `y` give at 0, 1, .. below `count` added to it one after another.
+/// Returns `start` plus the products of what `x` and `y` give at 0, 1, .. below `count`, added one after another.
 #[tactic(auto, using(crate::proofs::AddedSteps::added_steps))]
 pub fn added<F: Number, X: Fn(usize) -> F, Y: Fn(usize) -> F>(
     component: usize,

@@ -8,7 +8,7 @@ pub enum Reason {
     Repeated,
     /// A flow is below 0.
     Negative(usize, usize),
-    /// A flow is above what is brought there.
+    /// A flow is above what is brought to its hypothesis.
     Exceeds(usize, usize),
     /// The level of the step is 0.
     NoLevel,
@@ -16,15 +16,15 @@ pub enum Reason {
     AboveLevel,
     /// An exit is below 0.
     NegativeExit(usize, usize),
-    /// An exit is below what leaves there.
+    /// An exit is below what leaves its hypothesis.
     ShortExit(usize, usize),
-    /// The exits of a component allow more than 1.
+    /// The exits of a component allow a weight above 1.
     AboveOne(usize),
-    /// At the level that the exits allow, the hypothesis that is kept is legal.
+    /// At the level that the exits allow, the hypothesis of the keep is legal.
     Legal,
 }
 
-/// What a check says.
+/// The answer of a check whose written operations are defined.
 #[derive(Clone, Copy, PartialEq, Eq)]
 pub enum Verdict {
     /// The evidence meets its conditions.

@@ -3,7 +3,8 @@ use Rattle.std.specs.Prelude.{◌≡◌, ◌⊎◌, Result, Ok, Err}
 
 -- ---- results
 
--- The result is this answer, or the error for no memory. By cases on the result, so that it is a plain equation where a value was returned.
+-- The result is this answer, or the error for no memory. It is defined by cases on the result, so that it is a plain equation if
+-- a value was returned.
 abbrev pub IsUnless : {A E : Type 0} → E → Result A E → Result A E → Type 0
 IsUnless no_memory (Ok x) answer = answer ≡ Ok x
 IsUnless no_memory (Err e) answer = (e ≡ no_memory) ⊎ (answer ≡ Err e)

@@ -1,17 +1,17 @@
 -- Machines that read a text item by item, and how far a text goes in a language.
 use Rattle.std.specs.Prelude.{ℕ, ◌+◌, ◌≤◌, Bool, false, List, [], ◌∷◌, ◌++◌, length, take, Option, Some, None}
 
--- the same from the state that a step leads to, if it leads to one
+-- what `accepts` answers for the state that a step leads to; false if it leads to none
 abbrev pub accepts_then : {S : Type 0} → (S → Bool) → Option S → Bool
 accepts_then accepts None = false
 accepts_then accepts (Some state) = accepts state
 
--- a text is read to its end from a state on, and may end there
+-- whether a text is read to its end from a state on, and may end there
 unfoldable pub accepts : {X S : Type 0} → (S → X → Option S) → (S → Bool) → List X → S → Bool
 accepts step may_end [] state = may_end state
 accepts step may_end (x ∷ xs) state = accepts_then (accepts step may_end xs) (step state x)
 
--- the same after a step, if it leads to a state
+-- one item, and what `count` gives for the state that a step leads to; 0 if it leads to none
 abbrev pub count_then : {S : Type 0} → (S → ℕ) → Option S → ℕ
 count_then count None = 0
 count_then count (Some state) = 1 + count state

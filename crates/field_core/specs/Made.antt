@@ -10,8 +10,8 @@ abbrev pub fault_in : ℕ → Fault WideAtPlace → Fault WideAt
 fault_in c (Wide w) = Wide (record { component = c; place = w.place; op = w.op })
 fault_in c NoMemory = NoMemory
 
--- What is made. If it is made: what was written, as `view` shows it. If it is too wide: the first operation that is undefined. Nothing is said when
--- out of memory.
+-- What the code returns for a written run. A value, seen through `view`, is that of the run, and a refusal as too wide is its first undefined
+-- operation. When out of memory, nothing is claimed of the run.
 abbrev pub Makes : {A B W : Type 0} → (A → B) → Result A (Fault W) → Result B W → Type 0
 Makes view (Ok x) written = written ≡ Ok (view x)
 Makes view (Err (Wide w)) written = written ≡ Err w

@@ -13,19 +13,19 @@ SetsHaveNumbers = (m : ℕ) (I : ℕ → Bool) → (set_number m I < 2 ^ m) × H
 abbrev pub NumbersAreOfSets : Type 0
 NumbersAreOfSets = (m n : ℕ) → n < 2 ^ m → set_number m (members n) ≡ n
 
--- A set has one member more than it has without one of them.
+-- Without one of its members a set has one member fewer.
 abbrev pub DroppingTakesOne : Type 0
 DroppingTakesOne = (m k : ℕ) (I : ℕ → Bool) → IsIn m I k → size_of m (dropping k I) + 1 ≡ size_of m I
 
--- With another one it has one member more.
+-- With a hypothesis that it lacks, a set has one member more.
 abbrev pub AddingGivesOne : Type 0
 AddingGivesOne = (m k : ℕ) (I : ℕ → Bool) → k < m → I k ≡ false → size_of m (adding k I) ≡ size_of m I + 1
 
--- There are `m` hypotheses in all.
+-- The set of all hypotheses has `m` members.
 abbrev pub WholeHasAll : Type 0
 WholeHasAll = (m : ℕ) → size_of m whole ≡ m
 
--- A subset has no more members; it has all, or lacks one.
+-- A subset has no more members than its set, and it has all of them or lacks one.
 abbrev pub SubsetsAreSmaller : Type 0
 SubsetsAreSmaller =
     (m : ℕ) (J I : ℕ → Bool) → IsSubset m J I
@@ -36,12 +36,12 @@ abbrev pub LeftOutLeavesTheSet : Type 0
 LeftOutLeavesTheSet = (m : ℕ) (I : ℕ → Bool) → IsAscending m 0 (left_out m I) × IsOrder m whole (left_out m I)
     × HaveSameMembers m (left_after whole (left_out m I)) I
 
--- An ascending list is what the set leaves out that its removals leave.
+-- If the removals of an ascending list leave a set, the list is what the set leaves out.
 abbrev pub AscendingListsAreLeftOut : Type 0
 AscendingListsAreLeftOut = (m : ℕ) (js : List ℕ) (I : ℕ → Bool) → IsAscending m 0 js → HaveSameMembers m (left_after whole js) I
     → left_out m I ≡ js
 
--- Of two lists one comes before the other, or they are the same, and no two of these hold.
+-- Of two lists one comes before the other or they are the same, and no two of these hold.
 abbrev pub ListsAreOrdered : Type 0
 ListsAreOrdered = (js ks : List ℕ) → (ComesBefore js ks ⊎ (ComesBefore ks js ⊎ (js ≡ ks))) × ¬ (ComesBefore js ks × ComesBefore ks js)
     × ¬ ComesBefore js js

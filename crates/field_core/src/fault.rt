@@ -1,11 +1,11 @@
-//! Why what is written isn't made: an operation is too wide, or memory is out.
+//! Why a written run returns no value: an operation is too wide, or the call is out of memory.
 use crate::{NoMemory, Wide, WideAt};
 use std::alloc::AllocError;
 
-/// Why something isn't made.
+/// Why a written run returns no value.
 #[derive(Clone, Copy, PartialEq, Eq, Debug)]
 pub enum Fault<W> {
-    /// The first written operation of it that has a part past its size.
+    /// The first operation of the run that has a part past its size.
     Wide(W),
     /// Out of memory.
     NoMemory,

@@ -1,4 +1,4 @@
-//! Whole numbers of 64 bits, for which the machine has short ways.
+//! Whole numbers of 64 bits, which the machine computes in one word.
 ghost use Rattle.std.specs.Prelude.{◌≡◌, ℤ, pos, ◌*ℤ◌, ◌<ℤ◌, int_div, Some};
 ghost use Rattle.std.specs.Ordering.{int_eq};
 ghost use Rattle.field_core.specs.Sized.{sized, gcd_of};
@@ -22,21 +22,21 @@ impl Model for Short {
 }
 
 impl Short {
-    /// Returns this number.
+    /// Returns this number as a `Short`.
     pub fn new(value: i64) -> Short
         ensures { result ≡ value }
     {
         Short { value }
     }
 
-    /// Returns the number.
+    /// Returns the number as a `Whole`.
     pub fn whole(self) -> Whole
         ensures { result ≡ self }
     {
         Whole::new(self.value as i128)
     }
 
-    /// Whether it is 0.
+    /// Whether the number is 0.
     pub fn is_zero(self) -> bool
         ensures { result ≡ int_eq self (pos 0) }
     {
@@ -51,8 +51,8 @@ impl Short {
         Whole::new(self.value as i128 * other.value as i128)
     }
 
-    /// Returns the quotient by a number above 0, rounded towards 0. By 1 and by the number itself it saves a division, which takes
-    /// the machine longer than all else here.
+    /// Returns the quotient by a number above 0, rounded towards 0. By 1 and by the number itself it is found without a division,
+    /// which takes the machine longer than everything else here.
     pub fn over(self, by: Short) -> Short
         requires { pos 0 <ℤ by }
         ensures { result ≡ int_div self by }

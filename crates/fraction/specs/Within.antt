@@ -15,7 +15,7 @@ pub record IsWithin (n : ℕ) (x : Terms) : Type 0 where
 abbrev pub GivesWithin : ℕ → Option Terms → Type 0
 GivesWithin n r = (z : Terms) × (r ≡ Some z) × IsWithin n z
 
--- how large the parts of a result are where those of the operands are at most `a` and `b`
+-- a bound on the parts of a result, if those of the operands are at most `a` and `b`
 abbrev pub limit_of : Op → ℕ → ℕ → ℕ
 limit_of Add a b = a * b + a * b
 limit_of Sub a b = a * b + a * b

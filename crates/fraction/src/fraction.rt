@@ -57,7 +57,7 @@ impl PartialOrd for Fraction {
     }
 }
 
-/// `n` if the denominator is 1, else `n/d`.
+/// Writes `n` if the denominator is 1, else `n/d`.
 impl fmt::Display for Fraction {
     ghost use Rattle.std.specs.Prelude.{Some};
     ghost use Rattle.field_core.specs.View.{terms};
@@ -117,7 +117,7 @@ impl Number for Fraction {
         Ok(Fraction { ratio })
     }
 
-    /// Returns how it compares with `other`. It is never refused.
+    /// Returns the order of this fraction and `other`. It is never refused.
     fn compare(&self, other: &Fraction) -> Result<Ordering, TooWide> {
         Ok(self.ratio.compare(&other.ratio))
     }
@@ -153,8 +153,8 @@ impl Fraction {
     ghost use Rattle.fraction.specs.Spelling.{spelling};
     ghost use Rattle.fraction.specs.Tests.{is_zero, is_one, is_within, absolute};
 
-    /// Returns the fraction num/den, in lowest terms. `ZeroDenominator` if `den` is 0, else `TooWide` if a part in lowest terms
-    /// has 2^127 or more in size.
+    /// Returns the fraction num/den, in lowest terms. It is refused with `ZeroDenominator` if `den` is 0, and else with `TooWide` if
+    /// a part in lowest terms has 2^127 or more in size.
     pub fn new(num: i128, den: i128) -> Result<Fraction, FractionFault>
         ensures lowest { IfOk result (λ x. terms_of x ≡ lowest_terms num den) }
         ensures value { IfOk result (λ x. number_of x ≡ fraction num den) }
@@ -165,8 +165,8 @@ impl Fraction {
         Ok(Fraction { ratio })
     }
 
-    /// Returns the value of a numeral, a decimal such as `-1.5e3` or a pair such as `2/3`, within 38 digits. Of another text
-    /// it is the first fault of `NumberFault` that holds.
+    /// Returns the value of a numeral, a decimal such as `-1.5e3` or a pair such as `2/3`, within 38 digits. Any other text is
+    /// refused with the first `NumberFault` that holds.
     pub fn parse(text: &[u8]) -> Result<Fraction, NumberFault>
         ensures value { result ≡ numeral_of text.now }
     {
@@ -174,8 +174,8 @@ impl Fraction {
         Ok(Fraction { ratio })
     }
 
-    /// Returns the value of a text that is a decimal, or nothing if it has too many digits. Of any other text it is what
-    /// `parse` reads: the fraction of a numeral, else nothing.
+    /// Returns the value of a text that is a decimal, or nothing if it has too many digits. For any other text, returns what
+    /// `parse` reads: the fraction of a numeral, and else nothing.
     pub fn parse_decimal(text: &[u8]) -> Option<Fraction>
         ensures value { result ≡ result_ok (numeral_of text.now) }
         ensures decimal { (d : Decimal) → text.now ≡ body_text d.body → option_map terms_of result ≡ decimal_value d }
@@ -206,14 +206,14 @@ impl Fraction {
         self.ratio
     }
 
-    /// Whether it is 0.
+    /// Whether the fraction is 0.
     pub fn is_zero(&self) -> bool
         ensures { result ≡ is_zero (terms self.now) }
     {
         self.ratio.num() == 0
     }
 
-    /// Whether it is 1.
+    /// Whether the fraction is 1.
     pub fn is_one(&self) -> bool
         ensures { result ≡ is_one (terms self.now) }
     {

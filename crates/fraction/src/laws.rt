@@ -10,15 +10,15 @@ ghost use Rattle.fraction.specs.Numerals.{numeral_of};
 ghost use Rattle.fraction.specs.Spelling.{spelling, IsSpellingByte};
 ghost use Rattle.fraction.specs.Within.{ShortOperationsAreDefined, LowestTermsAreShortest};
 
-/// `numeral_of` returns a value exactly where the text is a numeral of that value, and a fault exactly where the text has
-/// that fault.
+/// `numeral_of` returns a value exactly if the text is a numeral of that value, and a fault exactly if the text has that
+/// fault.
 pub fn numerals_are_read()
     ensures value { (text : List ℕ) (x : Ratio) → (numeral_of text ≡ Ok x) ↔ IsNumeralOf text (terms x) }
     ensures fault { (text : List ℕ) (f : NumberFault) → (numeral_of text ≡ Err f) ↔ IsParseFault text f }
 {}
 
-/// The text of a fraction is a word of digits, a minus and a slash; if its parts have at most 38 digits, it is a numeral of the
-/// fraction.
+/// The text of a fraction isn't empty, and each of its bytes is a digit, a minus or a slash. If the parts have at most 38 digits,
+/// it is a numeral of the fraction.
 pub fn a_printed_fraction_reads_back()
     ensures some { (t : Terms) → IsReduced t → 0 < length (spelling t) }
     ensures bytes { (t : Terms) → IsReduced t → AllByRecursion IsSpellingByte (spelling t) }

@@ -10,7 +10,7 @@ use numerals::{Size, divided, reduced};
 /// The largest size of a part.
 const LARGEST: u128 = u128::MAX / 2;
 
-/// Whether a whole number is below 0, and its size.
+/// Returns whether a whole number is below 0, and its size.
 fn sign_and_size(number: i128) -> (bool, u128)
     ensures sign { result.0 ≡ is_negative number }
     ensures size { result.1 ≡ unsigned_abs number }
@@ -18,7 +18,7 @@ fn sign_and_size(number: i128) -> (bool, u128)
     (number < 0, number.unsigned_abs())
 }
 
-/// Returns the quotient of two whole numbers in lowest terms.
+/// Returns the quotient of two whole numbers in lowest terms, or why there is none within the sizes.
 pub fn quotient(num: i128, den: i128) -> Result<Ratio, FractionFault>
     ensures { IsLowest num den result }
 {

@@ -4,7 +4,7 @@ ghost use Rattle.field_core.specs.Terms.{IsReduced};
 
 use field_core::{Ratio, Short, Whole};
 
-/// Returns a number above 0, if it fits 64 bits. One comparison decides that, which saves half of what `Whole::short` takes.
+/// Returns a number above 0 as a `Short`, if it fits 64 bits. One comparison decides this, at half the cost of `Whole::short`.
 fn positive_short(n: Whole) -> Option<Short>
     requires { pos 0 <ℤ n }
     ensures { IfSome result (λ s. s ≡ n) }
@@ -31,7 +31,7 @@ impl ShortRatio {
     ghost use Rattle.fraction.specs.Short.{short_terms};
     ghost use Rattle.fraction.specs.Written.{written_mul, written_add};
 
-    /// Returns a fraction, if its parts fit 64 bits.
+    /// Returns a fraction as a `ShortRatio`, if its parts fit 64 bits.
     #[inline(always)]
     pub fn of(x: &Ratio) -> Option<ShortRatio>
         ensures { IfSome result (λ s. short_terms s ≡ terms x.now) }
@@ -42,7 +42,7 @@ impl ShortRatio {
         }
     }
 
-    /// Returns the same fraction.
+    /// Returns the fraction as a `Ratio`.
     fn ratio(self) -> Ratio
         ensures { terms result ≡ short_terms self }
     {

@@ -1,5 +1,5 @@
-//! The written operations on fractions. A caller tests the width of the parts in place, which saves it a call and a copy of what it
-//! gets; only the operations themselves are called.
+//! The written operations on fractions. Whether the parts fit 64 bits is tested inline in the caller, which saves a call and a
+//! copy of the result; only the operations themselves are calls.
 ghost use Rattle.std.specs.Prelude.{◌≡◌, ◌≢◌, pos};
 ghost use Rattle.std.specs.Option.{option_map};
 ghost use Rattle.field_core.specs.View.{terms};

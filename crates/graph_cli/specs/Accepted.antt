@@ -1,4 +1,4 @@
--- The stages that commands have in common: a case is read, and is one that the command can take.
+-- The stages that commands have in common: the case is read, and tested whether the command can take it.
 use Rattle.std.specs.Prelude.{◌≡◌, ◌⊎◌, ◌+◌, ◌<◌, ◌≤◌, ℕ, List, [], Some, None, Option, length}
 use Rattle.std.specs.Io.KnownBytes.{IsAtEnd}
 use Rattle.graph_io.specs.Reading.{TookAtMost}
@@ -34,7 +34,8 @@ use Rattle.graph_cli.specs.declared.trouble.Trouble.{Trouble}
 use Rattle.graph_cli.specs.declared.trouble.Trouble.TheVariants as troubles
 use Rattle.graph_cli.specs.Troubles.{line_of}
 
--- An input is at its end, or at most one byte more than an input may have was taken of it, by few takes.
+-- An input is at its end, or at most one byte more than an input may have was taken from it. In both cases the number of takes is at most this number
+-- of bytes.
 pub record IsTakenWithin {S : Type 0} (left : S → Option (List ℕ)) (calls : S → ℕ) (old new : S) : Type 0 where
   pub taken : IsAtEnd (left new) ⊎ TookAtMost (left old) (left new) (most_bytes + 1)
   pub turns : calls new ≤ calls old + (most_bytes + 1)
@@ -65,7 +66,7 @@ faultless d = record {
   Refuses = λ r. (fault : CaseFault) × (case_fault d ≡ Some fault) × (r ≡ case_refusal d.names fault);
 }
 
--- the case that bytes say in a format
+-- the case that bytes denote in a format
 abbrev pub case_in : Encoding → List ℕ → Stage Refusal Content
 case_in format bytes = and_then (grammar format bytes) faultless
 
@@ -89,7 +90,7 @@ of_kind kind c = record {
   Refuses = λ r. ¬ IsOfKind kind c.inputs × (r ≡ troubles.Kind);
 }
 
--- a case of no more hypotheses than these
+-- a case of at most this number of hypotheses
 abbrev pub of_size : ℕ → Content → Stage Trouble Content
 of_size most c = record {
   Gives = λ x. (length c.names ≤ most) × (x ≡ c);
@@ -100,6 +101,6 @@ of_size most c = record {
 abbrev pub suitable : Needs → Content → Stage Trouble Content
 suitable needs c = and_then (of_kind needs.kind c) (of_size needs.most)
 
--- the case that a source says in a format, if a command with these needs can take it
+-- the case that a source denotes in a format, if a command with these needs can take it
 abbrev pub accepted : Encoding → Needs → Option (List ℕ) → Stage Refusal Content
 accepted format needs left = and_then (on_bytes left (within [])) (λ bytes. and_then (case_in format bytes) (λ c. told_as (line_of c.names) (suitable needs c)))

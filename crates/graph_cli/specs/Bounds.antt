@@ -14,7 +14,7 @@ use Rattle.closed_test.specs.SetRuns.{AreRunsDefined}
 use Rattle.report.specs.BoundsReport.{IsBoundsReport}
 use Rattle.graph_cli.specs.Sets.{IsWideSet}
 
--- of each set this is its size less the greatest size of a subset that the closed test, at the level of the case, doesn't reject
+-- for each set, the bound is its size minus the greatest size of a subset that the closed test, at the level of the case, doesn't reject
 abbrev pub AreClosedBounds : Content → (ℕ → ℕ) → Type 0
 AreClosedBounds c bound = ForSingle c.inputs (λ ps. (n : ℕ) → n < 2 ^ length c.names
     → IsBound (length c.names) (IsClosedRejected (entangled c) (number_at ps) (number_of c.alpha)) (members n) (bound n))
@@ -23,7 +23,7 @@ AreClosedBounds c bound = ForSingle c.inputs (λ ps. (n : ℕ) → n < 2 ^ lengt
 abbrev pub ReportsBounds : Content → List ℕ → Type 0
 ReportsBounds c text = (bound : ℕ → ℕ) × AreClosedBounds c bound × IsBoundsReport c bound text
 
--- this report, if the runs of all sets are defined; or the first set whose run isn't
+-- the report of the bounds, if the runs of all sets are defined; or the first set whose run isn't
 abbrev pub bounded : Content → Stage Trouble (List ℕ)
 bounded c = record {
   Gives = λ text. AreRunsDefined c × ReportsBounds c text;

@@ -1,4 +1,4 @@
--- What is made of sizes and seeds.
+-- The stage of a case that is made from sizes and a seed.
 use Rattle.std.specs.Prelude.{◌≡◌, ℕ, Result, Ok, Err}
 use Rattle.answers.specs.declared.refusal.Refusal.{Refusal}
 use Rattle.answers.specs.Stages.{Stage}
@@ -9,13 +9,13 @@ use Rattle.catalogue.specs.WeightedGraphs.{names_of}
 use Rattle.refusals.specs.CaseRefusal.{case_refusal}
 use Rattle.refusals.specs.CatalogueRefusal.{size_refusal, seed_refusal}
 
--- how a fault of a case of a number of hypotheses is reported; that memory was exhausted isn't
+-- The refusal that reports why no case of `n` hypotheses was made. No refusal reports out-of-memory.
 abbrev pub IsToldAs : ℕ → CatalogueFault → Refusal → Type 0
 IsToldAs n (Size k) r = r ≡ size_refusal k
 IsToldAs n (Seed k) r = r ≡ seed_refusal k
 IsToldAs n (OfCase fault) r = r ≡ case_refusal (names_of n) fault
 IsToldAs n OutOfMemory r = ⊥
 
--- the content that is made of a number of hypotheses, or why none is
+-- the content of the case of `n` hypotheses that was made, or the refusal that reports why none was
 abbrev pub made_of : ℕ → Result Content CatalogueFault → Stage Refusal Content
 made_of n made = record { Gives = λ c. made ≡ Ok c; Refuses = λ r. (fault : CatalogueFault) × (made ≡ Err fault) × IsToldAs n fault r }

@@ -25,7 +25,7 @@ use Rattle.graph_cli.specs.declared.trouble.Trouble.TheVariants as troubles
 abbrev pub listed_in : Said → List ℕ
 listed_in said = map (λ s. s.hypothesis) said.steps
 
--- the hypotheses that are kept, in their order
+-- the hypotheses that are retained, in their order
 abbrev pub kept_in : Said → List ℕ
 kept_in said = map (λ x. x.hypothesis) said.keeps
 
@@ -44,11 +44,11 @@ checked c said = record {
       × (r ≡ troubles.Wide (Check (part_at (listed_in said) (kept_in said) wide.step)) wide.at);
 }
 
--- what is answered to a verdict: to a no, the first broken condition, with a status of its own
+-- the answer to a verdict; that to a no names the first broken condition, and its status is another
 abbrev pub answer_to : Content → Said → Verdict → Answer
 answer_to c said Yes = done (check_report c said.version (listed_in said) (kept_in said))
 answer_to c said (No n reason) = record { status = statuses.No; text = no_line c.names (listed_in said) (kept_in said) n reason }
 
--- the evidence, the verdict on it, and the answer to that
+-- the evidence, the verdict on it, and the answer to this verdict
 unfoldable pub check_stage : Content → List ℕ → Stage Trouble Answer
 check_stage c bytes = and_then (evidence_in c bytes) (λ said. and_then (checked c said) (λ verdict. only (answer_to c said verdict)))

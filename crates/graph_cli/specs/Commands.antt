@@ -1,4 +1,4 @@
--- What each command answers.
+-- The answer of each command.
 use Rattle.std.specs.Prelude.{◌≡◌, ℕ, ◌⊎◌, List, Option, codes}
 use Rattle.graph_io.specs.Causes.{Rose}
 use Rattle.answers.specs.declared.answer.Answer.{Answer}
@@ -37,7 +37,7 @@ needs_of (tasks.Evidence priority) = record { kind = Single; most = 64 }
 needs_of tasks.Stages = record { kind = Staged; most = 64 }
 needs_of (tasks.Canon format) = record { kind = Any; most = 64 }
 
--- what a task answers to a case that it can take
+-- the answer of a task for a case that it can take
 unfoldable pub on_case : CaseTask → Content → Stage Trouble Answer
 on_case (tasks.Test priority) c = test_stage priority c
 on_case tasks.Weights c = weights_stage c
@@ -73,7 +73,7 @@ check_ways format case_old case_new proof_old proof_new = over_source (check_cal
     (Rose case_old.faults case_new.faults ⊎ (IsCheckable format case_old.left × Rose proof_old.faults proof_new.faults))
     ((case_new.faults ≡ case_old.faults) × (proof_new.faults ≡ proof_old.faults))
 
--- what a command answers to a case and a proof
+-- the answer of a command for a case and a proof
 unfoldable pub call_of : Asked → Option (List ℕ) → Option (List ℕ) → Stage Refusal Answer
 call_of (task_on_case format task) case proof = case_call format task case
 call_of (catalogue graph) case proof = catalogue_stage graph
@@ -97,7 +97,7 @@ TakesProof (check format file) case = IsCheckable format case
 TakesProof (sample size seed) case = ⊥
 TakesProof help case = ⊥
 
--- a command that reads a proof can't take the case before it
+-- a command that reads a proof can't take the case, which it reads first
 unfoldable pub StopsAtCase : Asked → Option (List ℕ) → Type 0
 StopsAtCase (task_on_case format task) case = ⊥
 StopsAtCase (catalogue graph) case = ⊥

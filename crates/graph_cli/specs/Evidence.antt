@@ -25,13 +25,13 @@ use Rattle.graph_cli.specs.Test.{decided}
 use Rattle.graph_cli.specs.declared.trouble.Trouble.{Trouble}
 use Rattle.graph_cli.specs.declared.trouble.Trouble.TheVariants as troubles
 
--- evidence of version 2, of the written flow run along the steps of a decision
+-- evidence of version 2, with the steps and keeps of the written flow run along the steps of a decision
 pub record IsFlowRun (c : Content) (decision : Decision) (v : Evidence) : Type 0 where
   pub fits : IsEvidenceFor c v
   pub version : version_of v ≡ 2
   pub run : case_flows c (hypotheses decision.steps) ≡ Ok (record { steps = steps_of v; keeps = keeps_of v })
 
--- this evidence; or the first operation of the flow run that is undefined
+-- the evidence of the flow run; or the first operation of this run that is undefined
 abbrev pub flown : Content → Decision → Stage Trouble Said
 flown c decision = record {
   Gives = λ said. (v : Evidence) × IsFlowRun c decision v × (said ≡ said_of v);
@@ -42,7 +42,7 @@ flown c decision = record {
 abbrev pub text_said : Content → Said → List ℕ
 text_said c said = text_of (evidence_lines (case_frame (numbers_of c) c) said.version said.steps said.keeps)
 
--- the text of evidence that the written check says yes to; or the first operation of the check that is undefined
+-- the text of evidence, if the verdict of the written check on it is yes; or the first operation of the check that is undefined
 abbrev pub confirmed : Content → Said → Stage Trouble (List ℕ)
 confirmed c said = record {
   Gives = λ text. (verdict_of (case_check c said.steps said.keeps) ≡ Ok Yes) × (text ≡ text_said c said);

@@ -30,6 +30,6 @@ named_case (Fallback n) = fallback_case (equal_weights n) (part 20) []
 named_case (Parallel a b) = parallel_case a b (part 20) []
 named_case (ImprovedParallel a b) = improved_case a b (part 20) []
 
--- the canonical text of the case that is the named graph; or why there is none of these sizes
+-- the canonical text of the case that is the named graph; or the refusal that reports why no case of these sizes is made
 unfoldable pub catalogue_stage : SizedGraph → Stage Refusal Answer
 catalogue_stage graph = and_then (made_of (reported_size graph) (named_case graph)) (λ c. only (done (canonical_text c)))

@@ -1,4 +1,4 @@
--- What the definitions of the outcome promise.
+-- Laws of the answers, as the definition of the outcome gives them.
 use Rattle.std.specs.Prelude.{◌≡◌, ◌↔◌, ℕ, true, List, map, length, Option, Some, None, Ok}
 use Rattle.field_core.specs.Sets.{whole}
 use Rattle.fraction.specs.View.{number_of}
@@ -36,7 +36,7 @@ use Rattle.sequential.specs.Decisions.{hypotheses, IsDecision}
 use Rattle.graph_cli.specs.Accepted.{grammar}
 use Rattle.graph_cli.specs.Outcome.{AskFor, outcome}
 
--- words, the bytes of a case and those of a proof have at most one answer
+-- for words, the bytes of a case and those of a proof there is at most one answer
 abbrev pub HasOneAnswer : Type 0
 HasOneAnswer = (words : List (List ℕ)) (case proof : List ℕ) (a b : Answer) → IsAnswerOf (outcome words (Some case) (Some proof)) a
     → IsAnswerOf (outcome words (Some case) (Some proof)) b → a ≡ b
@@ -57,8 +57,8 @@ pub record DecidesByTheClosedTest (priority : Priority) (c : Content) (decision 
   pub complete : IsCompleteIn c (hypotheses decision.steps)
   pub named : (j : ℕ) → (is_rejected decision.steps j ≡ true) ↔ IsRejectedIn c j
 
--- the text is the report of the decision of a priority, with the adjusted values, the least levels at which the closed test rejects the hypotheses. Its
--- line `rejected` names exactly the hypotheses that the closed test rejects
+-- The text is the report of the decision of a priority, with the adjusted values, which are the least levels at which the closed test rejects the
+-- hypotheses. Its line `rejected` names exactly the hypotheses that the closed test rejects.
 pub record ReportsClosedTest (priority : Priority) (c : Content) (text : List ℕ) : Type 0 where
   pub decision : Decision
   pub adjusted : List Adjusted
@@ -81,26 +81,26 @@ pub record ReportsStagedTest (c : Content) (text : List ℕ) : Type 0 where
   pub are_looks : AreLooks c looks
   pub named : (j : ℕ) → (is_settled looks j ≡ true) ↔ IsStagedRejectedIn c (arrivals_of c.inputs) j
 
--- the bytes say, in a format, a draft without a fault, and the text reports something of its case
+-- the bytes denote, in a format, a draft without a fault, and the text reports its case in the sense of `Reports`
 pub record ReportsCase (Reports : Content → List ℕ → Type 0) (format : Encoding) (bytes text : List ℕ) : Type 0 where
   pub draft : Draft
   pub says : (grammar format bytes).Gives draft
   pub faultless : case_fault draft ≡ None
   pub reports : Reports (content_of draft) text
 
--- what words that ask for `test` are answered with status 0, by any priority, reports the closed test on the case
+-- an answer with status 0 to words that request `test`, by any priority, reports the closed test on the case
 abbrev pub ReportsAreOfTheClosedTest : Type 0
 ReportsAreOfTheClosedTest = (words : List (List ℕ)) (format : Encoding) (priority : Priority) (case : List ℕ) (proof : Option (List ℕ)) (a : Answer)
     → AskFor words (on_case format (Test priority)) → IsAnswerOf (outcome words (Some case) proof) a → a.status ≡ Done
     → ReportsCase (ReportsClosedTest priority) format case a.text
 
--- what words that ask for `sample` are answered with status 0 reports the closed test on the sampled case
+-- an answer with status 0 to words that request `sample` reports the closed test on the sampled case
 abbrev pub SamplesAreOfTheClosedTest : Type 0
 SamplesAreOfTheClosedTest = (words : List (List ℕ)) (size seed : ℕ) (case proof : Option (List ℕ)) (a : Answer)
     → AskFor words (sample size seed) → IsAnswerOf (outcome words case proof) a → a.status ≡ Done
     → (c : Content) × (sample_case size seed ≡ Ok c) × ReportsSample c seed a.text
 
--- what words that ask for `stages` are answered with status 0 reports the staged closed test on the case
+-- an answer with status 0 to words that request `stages` reports the staged closed test on the case
 abbrev pub ReportsAreOfTheStagedTest : Type 0
 ReportsAreOfTheStagedTest = (words : List (List ℕ)) (format : Encoding) (case : List ℕ) (proof : Option (List ℕ)) (a : Answer)
     → AskFor words (on_case format Stages) → IsAnswerOf (outcome words (Some case) proof) a → a.status ≡ Done
@@ -113,8 +113,8 @@ stepped steps = map (λ s. s.hypothesis) steps
 abbrev pub retained : List KeepParts → List ℕ
 retained keeps = map (λ x. x.hypothesis) keeps
 
--- The text is that of evidence of version 2 for a case, which `check` says yes to. Its steps are a legal order of exactly the hypotheses that the
--- closed test rejects, and it keeps exactly the others.
+-- The text is that of evidence of version 2 for a case, on which the verdict of the check is yes. Its steps are a legal order of exactly the hypotheses
+-- that the closed test rejects, and it keeps exactly the others.
 pub record PrintsEvidence (c : Content) (text : List ℕ) : Type 0 where
   pub evidence : Evidence
   pub fits : IsEvidenceFor c evidence
@@ -125,14 +125,14 @@ pub record PrintsEvidence (c : Content) (text : List ℕ) : Type 0 where
   pub named : (j : ℕ) → IsListed (stepped (steps_of evidence)) j ↔ IsRejectedIn c j
   pub keeps : retained (keeps_of evidence) ≡ others (length c.names) (stepped (steps_of evidence))
 
--- what words that ask for `evidence` are answered with status 0, by any priority, is such evidence of the case
+-- an answer with status 0 to words that request `evidence`, by any priority, is such evidence for the case
 abbrev pub EvidenceIsOfTheClosedTest : Type 0
 EvidenceIsOfTheClosedTest = (words : List (List ℕ)) (format : Encoding) (priority : Priority) (case : List ℕ) (proof : Option (List ℕ)) (a : Answer)
     → AskFor words (on_case format (EvidenceTask priority)) → IsAnswerOf (outcome words (Some case) proof) a → a.status ≡ Done
     → ReportsCase PrintsEvidence format case a.text
 
--- The text is the report of the evidence for a case that a proof denotes, to which the check says yes. Its steps are a legal order of hypotheses that
--- the closed test rejects. In version 2 they are all that it rejects, and the evidence keeps exactly the others.
+-- The text is the report of the evidence that a proof denotes for a case, on which the verdict of the check is yes. Its steps are a legal order of
+-- hypotheses that the closed test rejects. In version 2 they are all that it rejects, and the evidence keeps exactly the others.
 pub record ReportsEvidence (c : Content) (proof text : List ℕ) : Type 0 where
   pub evidence : Evidence
   pub fits : IsEvidenceFor c evidence
@@ -144,7 +144,7 @@ pub record ReportsEvidence (c : Content) (proof text : List ℕ) : Type 0 where
   pub all : version_of evidence ≡ 2 → (j : ℕ) → IsListed (stepped (steps_of evidence)) j ↔ IsRejectedIn c j
   pub keeps : version_of evidence ≡ 2 → retained (keeps_of evidence) ≡ others (length c.names) (stepped (steps_of evidence))
 
--- what words that ask for `check` are answered with status 0 lists only hypotheses that the closed test rejects, and in version 2 all of them
+-- an answer with status 0 to words that request `check` lists only hypotheses that the closed test rejects, and in version 2 all of them
 abbrev pub ChecksAreOfTheClosedTest : Type 0
 ChecksAreOfTheClosedTest = (words : List (List ℕ)) (format : Encoding) (file : ℕ) (case proof : List ℕ) (a : Answer)
     → AskFor words (check format file) → IsAnswerOf (outcome words (Some case) (Some proof)) a → a.status ≡ Done

@@ -1,4 +1,4 @@
--- What words, a case and a proof call for: the first stage that refuses decides.
+-- The answer that words, a case and a proof require: the first stage that refuses decides.
 use Rattle.std.specs.Prelude.{◌≡◌, ℕ, ◌⊎◌, List, Option, Some, Ok}
 use Rattle.graph_io.specs.Causes.{Rose}
 use Rattle.answers.specs.declared.answer.Answer.{Answer}
@@ -15,11 +15,11 @@ use Rattle.graph_cli.specs.Commands.{call_of, TakesCase, TakesProof, StopsAtCase
 abbrev pub outcome : List (List ℕ) → Option (List ℕ) → Option (List ℕ) → Stage Refusal Answer
 outcome words case proof = and_then (told_as usage (stage_of (asked_in words))) (λ command. call_of command case proof)
 
--- words are accepted, and ask for this
+-- words are accepted, and request this command
 abbrev pub AskFor : List (List ℕ) → Asked → Type 0
 AskFor words command = asked_in words ≡ Ok command
 
--- words are accepted, and ask a study for this
+-- words are accepted, and request this of a study
 abbrev pub AskStudy : List (List ℕ) → StudyAsked → Type 0
 AskStudy words asked = study_in words ≡ Ok asked
 
@@ -28,15 +28,15 @@ abbrev pub NamesFile : List (List ℕ) → ℕ → Type 0
 NamesFile words place =
     ((command : Asked) × AskFor words command × (file_of command ≡ Some place)) ⊎ ((asked : StudyAsked) × AskStudy words asked × (asked.file ≡ place))
 
--- the words ask for a command that reads a case
+-- the words request a command that reads a case
 abbrev pub ReadsCase : List (List ℕ) → Type 0
 ReadsCase words = (command : Asked) × AskFor words command × TakesCase command
 
--- the words ask for a command that reads a proof, and nothing before the proof refuses
+-- the words request a command that reads a proof, and nothing before the proof refuses
 abbrev pub ReadsProof : List (List ℕ) → Option (List ℕ) → Type 0
 ReadsProof words case = (command : Asked) × AskFor words command × TakesProof command case
 
--- the words ask for a command that reads a proof, and the case before the proof is refused
+-- the words request a command that reads a proof, and the case before the proof is refused
 abbrev pub RefusesCase : List (List ℕ) → Option (List ℕ) → Type 0
 RefusesCase words case = (command : Asked) × AskFor words command × StopsAtCase command case
 

@@ -17,6 +17,6 @@ use Rattle.graph_cli.specs.declared.trouble.Trouble.{Trouble}
 abbrev pub decided_sample : ℕ → Content → Stage Trouble Answer
 decided_sample seed c = and_then (decided First c) (λ decision. only (done (sample_report c seed decision)))
 
--- the sample, and what is decided on it
+-- the sample, and the report of the decision on it
 unfoldable pub sample_stage : ℕ → ℕ → Stage Refusal Answer
 sample_stage size seed = and_then (made_of size (sample_case size seed)) (λ c. told_as (line_of c.names) (decided_sample seed c))

@@ -7,6 +7,6 @@ use Rattle.case_model.specs.Content.{Content}
 use Rattle.closed_test.specs.SetRuns.{IsFirstWideSet}
 use Rattle.refusals.specs.declared.wide.When.TheVariants.{Set}
 
--- a refusal names the first set, in the order of sets, whose run is undefined, and its first operation that is
+-- a refusal names the first set, in the order of sets, whose run is undefined, and the first undefined operation of that run
 abbrev pub IsWideSet : Content → Trouble → Type 0
 IsWideSet c r = (n : ℕ) × (wide : WideAt) × IsFirstWideSet c n wide × (r ≡ troubles.Wide (Set n) wide)

@@ -23,7 +23,7 @@ use Rattle.simes_test.specs.SimesTest.{IsSimesClosed}
 use Rattle.simes_test.specs.declared.fault.SimesFault.TheVariants.{Wide}
 use Rattle.graph_cli.specs.Sets.{IsWideSet}
 
--- of each set this is its size less the greatest size of a subset that the closed test of Simes' test, at the level of the case, doesn't reject
+-- for each set, the bound is its size minus the greatest size of a subset that the closed test of Simes' test, at the level of the case, doesn't reject
 abbrev pub AreSimesBounds : Content → (ℕ → ℕ) → Type 0
 AreSimesBounds c bound = ForSingle c.inputs (λ ps. (n : ℕ) → n < 2 ^ length c.names
     → IsBound (length c.names) (IsSimesClosed (entangled c) (number_at ps) (number_of c.alpha)) (members n) (bound n))

@@ -1,4 +1,4 @@
--- Why a command answers nothing to a case, and how it is reported.
+-- Why a command gives no answer for a case, and how this is reported.
 use Rattle.std.specs.Prelude.{◌≡◌, ◌≢◌, ◌⊎◌, ℕ, List, Result, Ok, Err}
 use Rattle.answers.specs.Stages.{Stage}
 use Rattle.answers.specs.declared.answer.Answer.{Answer}
@@ -36,7 +36,7 @@ of_run Adjusting (runs.Wide n wide) = Wide (AdjustedStep n) wide
 of_run Flows (runs.Wide n wide) = Wide (EvidenceStep n) wide
 of_run run runs.NoMemory = NoMemory
 
--- the first set whose run is undefined
+-- too many hypotheses, or the first set whose run is undefined
 abbrev pub of_sets : ClosedFault → Trouble
 of_sets (sets.TooMany n) = Closure n
 of_sets (sets.Wide n wide) = Wide (Set n) wide
@@ -47,7 +47,7 @@ abbrev pub of_simes : SimesFault → Trouble
 of_simes (simes.Wide n wide) = Wide (SimesSet n) wide
 of_simes simes.NoMemory = NoMemory
 
--- the opening, or the settling after the first arrival, that is undefined
+-- the opening if it is undefined, or the first arrival after which the settling is
 abbrev pub of_looks : LooksFault → Trouble
 of_looks (looks.Opening wide) = Wide Opening wide
 of_looks (looks.Arriving n wide) = Wide (Arrival n) wide
@@ -58,7 +58,8 @@ abbrev pub of_text : ProofText → Trouble
 of_text (texts.Line n kind) = Proof n kind
 of_text texts.NoMemory = NoMemory
 
--- The line that reports a trouble, with the names of a case. That a command is out of memory has a line of its own, and is reported elsewhere.
+-- The line that reports a trouble, with the names of a case. Out-of-memory has a line of its own and is reported elsewhere, so that its value here isn't
+-- used.
 abbrev pub line_of : List (List ℕ) → Trouble → Refusal
 line_of names Kind = kind_refusal
 line_of names (Closure n) = closure_refusal n
@@ -66,7 +67,7 @@ line_of names (Wide when wide) = wide_refusal names when wide
 line_of names (Proof n kind) = proof_refusal n kind
 line_of names NoMemory = kind_refusal
 
--- a call stops at a trouble: by its line, or nothing when out of memory
+-- a call stops at a trouble: with the line that reports it, or out of memory
 abbrev pub StopsAt : List (List ℕ) → Trouble → Stop → Type 0
 StopsAt names t stop = (stop ≡ stops.NoMemory) ⊎ ((t ≢ NoMemory) × (stop ≡ stops.Refused (line_of names t)))
 

@@ -15,7 +15,7 @@ use Rattle.graph_cli.specs.Sets.{IsWideSet}
 abbrev pub ReportsWeights : Content → List ℕ → Type 0
 ReportsWeights c text = (weight : ℕ → ℕ → Ratio) × AreIntersectionWeights c weight × IsWeightsReport c weight text
 
--- this report, if the runs of all sets are defined; or the first set whose run isn't
+-- the report of the weights, if the runs of all sets are defined; or the first set whose run isn't
 abbrev pub weighed : Content → Stage Trouble (List ℕ)
 weighed c = record {
   Gives = λ text. AreRunsDefined c × ReportsWeights c text;

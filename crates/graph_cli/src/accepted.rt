@@ -1,4 +1,4 @@
-//! The stages that commands have in common: a case is read, and is one that the command can take.
+//! The stages that commands have in common: the case is read, and tested whether the command can take it.
 ghost use Rattle.std.specs.Prelude.{◌≡◌, OnOk};
 ghost use Rattle.std.specs.Io.KnownBytes.{IsAtEnd};
 ghost use Rattle.answers.specs.Devices.{reading};
@@ -39,7 +39,7 @@ fn text_case(alloc: Global, bytes: &[u8]) -> Result<Case, Stop>
     }
 }
 
-/// Returns the case that CSV says at a level.
+/// Returns the case that a CSV sheet denotes at a level.
 fn csv_case(alloc: Global, alpha: Fraction, bytes: &[u8]) -> Result<Case, Stop>
     ensures { EndsIn (over_values (seen_by content (case_in (csv (level_of alpha)) bytes.now))) result }
 {
@@ -57,7 +57,7 @@ fn csv_case(alloc: Global, alpha: Fraction, bytes: &[u8]) -> Result<Case, Stop>
     }
 }
 
-/// Returns the case that JSON says.
+/// Returns the case that a JSON text denotes.
 fn json_case(alloc: Global, bytes: &[u8]) -> Result<Case, Stop>
     ensures { EndsIn (over_values (seen_by content (case_in json bytes.now))) result }
 {
@@ -67,7 +67,7 @@ fn json_case(alloc: Global, bytes: &[u8]) -> Result<Case, Stop>
     }
 }
 
-/// Returns the case that bytes say in a format.
+/// Returns the case that bytes denote in a format.
 fn read_case(alloc: Global, format: &CaseFormat, bytes: &[u8]) -> Result<Case, Stop>
     ensures { EndsIn (over_values (seen_by content (case_in (encoding format.now) bytes.now))) result }
 {
@@ -91,8 +91,13 @@ fn suitable(case: &Case, needs: Needs) -> Result<(), Trouble>
     Ok(())
 }
 
-/// Returns the case that a source says in a format, if a command with these needs can take it. Of a source that isn't read to its
-/// end, at most one byte more than it may have is taken.
+/// Returns the case that a source denotes in a format, if a command with these needs can take it.
+///
+/// It stops with a refusal if there are too many bytes, if they denote no case, or if the command can't take the case. It also
+/// stops with `ReadFault` if the source had a fault, and with `NoMemory`.
+///
+/// An input may have at most 4194304 bytes. If the source isn't read to its end, at most one byte more than that is taken from
+/// it.
 pub fn accepted_case<S: Source>(
     alloc: Global,
     format: &CaseFormat,

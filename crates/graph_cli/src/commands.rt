@@ -71,7 +71,7 @@ fn needs_of(task: CaseTask) -> Needs
     }
 }
 
-/// Returns what a task answers to a case that it can take.
+/// Returns the answer of a task for a case that it can take.
 #[tactic(auto, unfolding(crate::specs::Commands::needs_of, crate::specs::Commands::on_case))]
 fn case_answer(alloc: Global, task: CaseTask, case: &Case) -> Result<Answer, Trouble>
     requires kind { IsOfKind (needs_of task).kind (content case.now).inputs }
@@ -89,7 +89,7 @@ fn case_answer(alloc: Global, task: CaseTask, case: &Case) -> Result<Answer, Tro
     }
 }
 
-/// Returns a task on a case alone.
+/// Returns the answer of a task on a case alone.
 #[tactic(auto, unfolding(crate::specs::Commands::case_call))]
 fn case_call<S: Source>(
     alloc: Global,
@@ -114,7 +114,7 @@ fn check_needs() -> Needs
     Needs::new(InputKind::Single, 64)
 }
 
-/// Returns what `check` answers to a case and a proof. It takes from the proof only after a case that it can take.
+/// Returns the answer of `check` for a case and a proof. The proof is read only after a case that `check` can take.
 #[tactic(auto, using(crate::proofs::Taken::untouched), unfolding(crate::specs::Commands::check_call, crate::specs::Commands::check_needs))]
 fn check_call<S: Source, T: Source>(
     alloc: Global,
@@ -138,7 +138,8 @@ fn check_call<S: Source, T: Source>(
     ending_of(alloc, &accepted, answer)
 }
 
-/// Returns what a command answers to a case and a proof. It takes from a source only what it needs.
+/// Returns the answer of a command for a case and a proof. A source that the command doesn't read stays as it was; the proof
+/// is read only after a case that the command can take.
 #[tactic(auto, using(crate::proofs::Taken::untouched), unfolding(crate::specs::Commands::call_of, crate::specs::Commands::TakesCase, crate::specs::Commands::TakesProof, crate::specs::Commands::StopsAtCase))]
 pub fn call<S: Source, T: Source>(
     alloc: Global,

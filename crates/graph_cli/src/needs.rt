@@ -11,7 +11,7 @@ pub struct Needs {
 }
 
 impl Needs {
-    /// Returns what a command needs that takes inputs of this kind, of at most this number of hypotheses.
+    /// Returns the needs of a command that takes p-values of the kind `kind` and at most `most` hypotheses.
     pub fn new(kind: InputKind, most: usize) -> Needs
         ensures { result ≡ record { kind = kind; most = most } }
     {

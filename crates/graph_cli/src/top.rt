@@ -15,7 +15,8 @@ use graph_io::{Sink, Source};
 use refusals::usage;
 use std::alloc::Global;
 
-/// Returns the place, from 0, of the word that names the file of a proof, or that of the commands of a study.
+/// Returns the place, from 0, of the word that names a file: the file of a proof, or that of the commands of a study. `None` if
+/// no word does.
 pub fn file_word(words: &[String]) -> Option<usize>
     ensures file { IfSome result (NamesFile (words_in words.now)) }
     ensures none { result ≡ None → (place : ℕ) → ¬ NamesFile (words_in words.now) place }
@@ -29,7 +30,7 @@ pub fn file_word(words: &[String]) -> Option<usize>
     }
 }
 
-/// Returns what these words, this case and this proof call for.
+/// Returns the answer that these words, this case and this proof require.
 #[tactic(auto, using(crate::proofs::Taken::untouched))]
 fn answer<S: Source, T: Source>(
     alloc: Global,
@@ -55,14 +56,25 @@ fn answer<S: Source, T: Source>(
     }
 }
 
-/// Makes a call of the program: all that it does. `words` are the words after the program's name, `case` is standard input, and
-/// `proof` is the file that `file_word` names. `out` gets the text of the answer, or one line that says why there is none. A
-/// source that the command doesn't read stays as it was; `proof` is read only after a case that the command can take, and then
-/// before anything is answered. Of a source that isn't read to its end, at most one byte more than it may have is taken.
+/// Makes a call of the program, and does all that the call does.
 ///
-/// Statuses: 0 done; 1 the proof doesn't hold; 2 the words aren't accepted. 3: an input is malformed, or isn't of the kind that
-/// the command needs. 4: an input, a size or a seed is past a limit, or a size is 0. 5: a number of the case or of its run is too
-/// wide. 6: a source that is read had a fault. 7: `out` had a fault. 8: out of memory.
+/// - `words` are the words after the program's name, `case` is standard input, and `proof` is the file that `file_word` names.
+/// - `out` gets the text of the answer, or one line that names the reason why there is none.
+/// - A source that the command doesn't read stays as it was. `proof` is read only after a case that the command can take, and
+///   then before anything is answered.
+/// - An input may have at most 4194304 bytes. If a source isn't read to its end, at most one byte more than that is taken from
+///   it.
+///
+/// Statuses:
+/// - 0: done
+/// - 1: the proof doesn't hold
+/// - 2: the words aren't accepted
+/// - 3: an input is malformed, or isn't of the kind that the command needs
+/// - 4: an input, a size or a seed is past a limit, or a size is 0
+/// - 5: a number of the case or of its run is too wide
+/// - 6: a source that is read had a fault
+/// - 7: `out` had a fault
+/// - 8: out of memory
 pub fn run<S: Source, T: Source, W: Sink>(
     alloc: Global,
     words: &[String],

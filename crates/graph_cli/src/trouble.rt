@@ -1,4 +1,4 @@
-//! Why a command answers nothing to a case.
+//! Why a command gives no answer for a case.
 ghost use Rattle.std.specs.Prelude.{◌≡◌};
 ghost use Rattle.case_model.specs.CaseView.{content};
 ghost use Rattle.graph_cli.specs.Troubles.{IsTold};
@@ -25,18 +25,18 @@ pub enum Run {
     Flows,
 }
 
-/// Why a command answers nothing to a case.
+/// Why a command gives no answer for a case.
 #[derive(Clone, Copy, PartialEq, Eq, Debug)]
 pub enum Trouble {
-    /// The p-values aren't of the kind that it needs, or no document of the format can hold them.
+    /// The p-values aren't of the kind that the command needs, or no document of the format can hold them.
     Kind,
-    /// There are this number of hypotheses, more than it takes.
+    /// The case has this number of hypotheses, more than the command takes.
     Closure(u64),
     /// The first operation that is undefined, and when it is written.
     Wide(When, WideAt),
     /// The number of the first line of evidence that is not allowed there, from 1, and what is wrong with it.
     Proof(usize, ProofKind),
-    /// It is out of memory.
+    /// The command is out of memory.
     NoMemory,
 }
 
@@ -62,7 +62,9 @@ impl Trouble {
         }
     }
 
-    /// Returns why a call stops at it, with the line that reports it by the names of a case.
+    /// Returns the stop of a call at this trouble: a refusal with the line that reports it, written with the names of the case.
+    ///
+    /// `NoMemory` if the trouble is that, or if out of memory.
     pub fn stop(&self, alloc: Global, case: &Case) -> Stop
         ensures { StopsAt (content case.now).names self.now result }
     {
@@ -72,7 +74,9 @@ impl Trouble {
         }
     }
 
-    /// Returns the line that reports it, with the names of the case; `NoMemory` if it is that, or out of memory.
+    /// Returns the line that reports the trouble, written with the names of the case.
+    ///
+    /// `NoMemory` if the trouble is that, or if out of memory.
     fn line(&self, alloc: Global, names: &[Text]) -> Result<Refusal, NoMemory>
         ensures line { IfOk result (λ refusal. refusal ≡ line_of names.now self.now) }
         ensures memory { IfOk result (λ refusal. self.now ≢ OutOfMemory) }
@@ -87,7 +91,7 @@ impl Trouble {
     }
 }
 
-/// Returns what a call ends in whose command answers this to a case.
+/// Returns the end of a call, `given` being what its command gave for the case: the answer as it is, or the stop at the trouble.
 pub fn ending_of(alloc: Global, case: &Case, given: Result<Answer, Trouble>) -> Result<Answer, Stop>
     ensures { IsTold (content case.now).names given result }
 {

@@ -1,11 +1,11 @@
--- Counts of faults, and what an error of a call says of them.
+-- Counts of faults, and how an error of a call changes them.
 use Rattle.std.specs.Prelude.{◌≡◌, ℕ, ◌+◌, ◌-◌, ◌^◌, ◌≤◌, min, Result, OnErr, OnOk, MatchResult}
 
 -- one more, of a count that stays at 2^64 - 1
 abbrev pub count_up : ℕ → ℕ
 count_up n = min (n + 1) (2 ^ 64 - 1)
 
--- the count of faults rose, or is at its end
+-- the count of faults rose, or is 2^64 - 1, where it stays
 abbrev pub Rose : ℕ → ℕ → Type 0
 Rose before now = count_up before ≤ now
 

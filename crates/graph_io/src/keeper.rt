@@ -6,8 +6,8 @@ ghost use Rattle.graph_io.specs.Keeping.{Loads, with_look, IsCaused};
 use field_core::{List, NoMemory, Ratio};
 use std::alloc::Global;
 
-/// A p-value that came at a stage: of a hypothesis, by its position from 0, at a stage, from 1. Any numbers may be
-/// kept; whether a study takes them is given by the study.
+/// A p-value of a hypothesis that came at a stage. Hypotheses are named by their positions from 0, and stages are counted from 1.
+/// A keeper may hold any numbers; the study decides whether it takes them.
 #[derive(Clone, Copy, PartialEq, Eq, Debug)]
 pub struct Look {
     pub hypothesis: u32,
@@ -48,8 +48,8 @@ pub trait Keeper {
     /// How many calls were made.
     ghost calls: { Self → ℕ };
 
-    /// Appends all looks in their order to `into`. It is `Fault` only if the count of faults rose, and then, as when
-    /// out of memory, `into` stays as it was. The looks stay in each case.
+    /// Appends all looks in their order to `into`. It is refused with `Fault` only if the count of faults rose. After a
+    /// refusal, `into` stays as it was. The looks stay in each case.
     fn load(&mut self, alloc: Global, into: &mut List<Look>) -> Result<(), KeeperFault>
         ensures loaded { OnOk result (Loads (looks self.old) into.old into.new) }
         ensures unchanged { OnErr result (into.new ≡ into.old) }
@@ -57,8 +57,7 @@ pub trait Keeper {
         ensures cause { IsCaused (faults self.old) (faults self.new) result }
         ensures turn { calls self.new ≡ calls self.old + 1 };
 
-    /// Puts a look after the others. It is `Fault` only if the count of faults rose, and then, as when out of memory,
-    /// the looks stay as they were.
+    /// Appends a look. It is refused with `Fault` only if the count of faults rose. After a refusal the looks stay as they were.
     fn append(&mut self, alloc: Global, look: &Look) -> Result<(), KeeperFault>
         ensures appended { OnOk result (looks self.new ≡ with_look (looks self.old) look.now) }
         ensures kept { OnErr result (looks self.new ≡ looks self.old) }

@@ -26,7 +26,7 @@ impl Remaining {
         Remaining { bytes, at: 0 }
     }
 
-    /// Moves at most `most` bytes into the front of `buf`, and says how many.
+    /// Moves at most `most` bytes into the front of `buf`, and returns how many.
     pub(crate) fn move_into(&mut self, buf: &mut [u8], most: usize) -> usize
         ensures count { result ≡ min most (min (length self.old) (length buf.old)) }
         ensures moved { self.old ≡ take result buf.new ++ self.new }

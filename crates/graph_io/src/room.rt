@@ -47,7 +47,8 @@ impl Room {
         self.held.as_slice()
     }
 
-    /// Takes the bytes that fit, at most `most`; it fails if it takes none of some.
+    /// Takes the bytes that fit, at most `most` of them, and returns how many. It fails exactly if there are bytes and none of them
+    /// can be taken; then the room stays as it was.
     pub(crate) fn put(&mut self, bytes: &[u8], most: usize) -> Result<usize, Failed>
         ensures failed { IsErr result
             ↔ ((min most (free_in self.old) ≡ 0) × (0 < length bytes.now)) }

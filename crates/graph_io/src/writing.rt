@@ -19,7 +19,7 @@ pub trait Sink {
     /// How many calls were made.
     ghost calls: { Self → ℕ };
 
-    /// Appends the first bytes of `bytes`, at least one if there are any, and says how many. A failed call appends nothing.
+    /// Appends the first bytes of `bytes`, at least one if there are any, and returns how many. A failed call appends nothing.
     fn put(&mut self, bytes: &[u8]) -> Result<usize, Failed>
         ensures bound { WritesAtMost result bytes.now }
         ensures some { IfOk result (λ n. 0 < length bytes.now → 0 < n) }
@@ -27,12 +27,12 @@ pub trait Sink {
         ensures cause { HasCause (faults self.old) (faults self.new) result }
         ensures turn { calls self.new ≡ calls self.old + 1 };
 
-    /// The count of faults is a `u64`.
+    /// The count of faults stays below 2^64.
     ghost counted: { (s : Self) → faults s < 2 ^ 64 };
 }
 
-/// Puts all bytes into a sink, after what it holds. After a failure a prefix of them is there, and the count of faults rose;
-/// else the count stays. At most one put a byte is made.
+/// Puts all bytes into a sink, after what it holds. After a failure the sink holds a prefix of them, and its count of faults rose;
+/// otherwise the count stays. At most one put is made for each byte.
 pub fn write_all<W: Sink>(sink: &mut W, bytes: &[u8]) -> Result<(), Failed>
     ensures bytes { PutAll (W.held sink.old) (W.held sink.new) bytes.now result }
     ensures cause { HasCause (W.faults sink.old) (W.faults sink.new) result }

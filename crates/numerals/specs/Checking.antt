@@ -5,7 +5,7 @@ use Rattle.numerals.specs.declared.fault.NumberFault.TheVariants.{Empty, BadByte
 use Rattle.numerals.specs.Prefixes.{IsBadByte}
 use Rattle.numerals.specs.Numeral.{IsNumeral}
 
--- it is a numeral, or empty, or else has a first bad byte
+-- a text is a numeral, or empty, or else has a first bad byte
 unfoldable pub IsChecked : List ℕ → Result (Unit {0}) NumberFault → Type 0
 IsChecked text (Ok x) = IsNumeral text
 IsChecked text (Err Empty) = text ≡ []

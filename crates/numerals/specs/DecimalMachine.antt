@@ -17,7 +17,7 @@ class_of b =
     else if b == 47 then classes.Slash
     else classes.Other
 
--- what was read of a decimal with one byte more, or nothing if no decimal begins so
+-- what is read of a decimal after one more byte of this class, or nothing if no decimal begins so
 abbrev pub decimal_step : DecimalPart → Class → Option DecimalPart
 decimal_step Start classes.Digit = Some Whole
 decimal_step Start classes.Point = Some Point
@@ -33,11 +33,11 @@ decimal_step MarkSigned classes.Digit = Some Exponent
 decimal_step Exponent classes.Digit = Some Exponent
 decimal_step part class = None
 
--- the same of a byte
+-- what is read of a decimal after one more byte, or nothing if no decimal begins so
 abbrev pub decimal_byte : DecimalPart → ℕ → Option DecimalPart
 decimal_byte part b = decimal_step part (class_of b)
 
--- a decimal may end here
+-- whether a decimal may end here
 abbrev pub may_end : DecimalPart → Bool
 may_end Whole = true
 may_end Fraction = true

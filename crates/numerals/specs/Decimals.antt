@@ -1,4 +1,4 @@
--- Decimals: numerals without a sign that are not pairs, and what they are worth.
+-- Decimals: numerals without a sign that are not pairs, and their values.
 use Rattle.std.specs.Prelude.{◌≡◌, ◌↔◌, ℕ, ◌-◌, ◌&&◌, ◌||◌, ◌++◌, Bool, true, List, length, nat_lt, int_lt, ℤ, pos, ◌-ℤ◌}
 use Rattle.std.specs.Prelude.{Option, Some, None, if◌then◌else◌}
 use Rattle.field_core.specs.Terms.{Terms}

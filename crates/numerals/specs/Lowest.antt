@@ -5,16 +5,16 @@ use Rattle.field_core.specs.Divisor.{gcd}
 use Rattle.field_core.specs.Terms.{Terms}
 use Rattle.numerals.specs.Numeral.{with_sign}
 
--- the quotient of two sizes in lowest terms, after a sign
+-- the quotient of two sizes in lowest terms, with a sign
 unfoldable pub lowest_of : Bool → ℕ → ℕ → Terms
 lowest_of negative n d = record { num = with_sign negative (n / gcd n d); den = pos (d / gcd n d) }
 
--- one of two holds, and not the other
+-- whether exactly one of two holds
 abbrev pub differ : Bool → Bool → Bool
 differ true b = not b
 differ false b = b
 
--- n/d in lowest terms, with its sign above
+-- n/d in lowest terms, with its sign in the numerator
 unfoldable pub lowest_terms : ℤ → ℤ → Terms
 lowest_terms n d = lowest_of (differ (is_negative n) (is_negative d)) (unsigned_abs n) (unsigned_abs d)
 

@@ -1,4 +1,4 @@
--- Numerals: what they are, what they are worth, and why a text has no value.
+-- Numerals: what they are, their values, and why a text has no value.
 use Rattle.std.specs.Prelude.{◌≡◌, ℕ, suc, ◌+◌, ◌-◌, ◌^◌, ◌<◌, ◌≤◌, ◌⊎◌, Bool, false, List, [], ◌∷◌, ◌++◌, length}
 use Rattle.std.specs.Prelude.{drop, ℤ, pos, negsuc, neg_ℤ, ◌-ℤ◌, ◌*ℤ◌, ◌<ℤ◌, Option, Some, None, ◌==◌, if◌then◌else◌}
 use Rattle.std.specs.List.{prefix_len, suffix_len}
@@ -106,7 +106,7 @@ value_of sign (Pair over under) = record { num = signed sign (digits_value 10 ov
 
 -- ---- its limits
 
--- the digit 0
+-- whether a byte is the digit 0
 abbrev pub is_nought : ℕ → Bool
 is_nought b = b == 48
 
@@ -118,13 +118,13 @@ without_leading_zeros digits = drop (prefix_len is_nought digits) digits
 unfoldable pub trailing_zeros : List ℕ → ℕ
 trailing_zeros digits = suffix_len is_nought digits
 
--- a number of n digits, divided by ten to the s, passes the limit: the digits are more than 38, or reach more than 38 places after the point. Or they
--- are more than 38 together with the zeros up to the point
+-- A number of n digits, divided by ten to the s, passes the limit of 38. It has more digits, or more places after the point, or more digits together
+-- with the zeros up to the point.
 abbrev pub PassesLimit : ℕ → ℤ → Type 0
 PassesLimit n s = (38 < n) ⊎ ((pos 38 <ℤ s) ⊎ ((s <ℤ pos 0) × (pos 38 <ℤ (pos n -ℤ s))))
 
--- The digits of a whole number without leading zeros, divided by ten to the s. The number isn't 0, and passes the limit once its trailing zeros are
--- dropped, each of which lowers s by 1.
+-- A whole number, given by its digits without leading zeros, is too long once divided by ten to the s. That is, it isn't 0, and it passes the limit
+-- without its trailing zeros, each of which lowers s by 1.
 unfoldable pub IsTooLong : List ℕ → ℤ → Type 0
 IsTooLong digits s = (0 < length digits) × PassesLimit (length digits - trailing_zeros digits) (s -ℤ pos (trailing_zeros digits))
 
@@ -134,8 +134,8 @@ HasZeroDenominator (Plain whole exponent) = ⊥
 HasZeroDenominator (Pointed whole fraction exponent) = ⊥
 HasZeroDenominator (Pair over under) = digits_value 10 under ≡ 0
 
--- All digits before the exponent make one whole number, and s is the number of those after the point less the exponent. In a pair each part is a
--- number of its own.
+-- A body has too many digits. All digits before the exponent make one whole number, which is too long over ten to the s. Here s is the number of
+-- digits after the point minus the exponent. Of a pair, one part has more than 38 digits without leading zeros.
 unfoldable pub HasTooManyDigits : Body → Type 0
 HasTooManyDigits (Plain whole exponent) = IsTooLong (without_leading_zeros whole) (pos 0 -ℤ exponent_of exponent)
 HasTooManyDigits (Pointed whole fraction exponent) = IsTooLong (without_leading_zeros (whole ++ fraction)) (pos (length fraction) -ℤ exponent_of exponent)

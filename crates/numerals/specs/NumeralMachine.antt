@@ -8,7 +8,7 @@ use Rattle.numerals.specs.declared.numeral_machine.State.{State}
 use Rattle.numerals.specs.declared.numeral_machine.State.TheVariants.{Start, Decimal, Slash, Under}
 use Rattle.numerals.specs.DecimalMachine.{class_of, decimal_step, may_end}
 
--- what was read with one byte more, or nothing if no numeral begins so
+-- what is read after one more byte of this class, or nothing if no numeral begins so
 abbrev pub step : State → Class → Option State
 step Start classes.Sign = Some (Decimal parts.Start)
 step Start class = option_map Decimal (decimal_step parts.Start class)
@@ -18,11 +18,11 @@ step Slash classes.Digit = Some Under
 step Under classes.Digit = Some Under
 step state class = None
 
--- the same of a byte
+-- what is read after one more byte, or nothing if no numeral begins so
 abbrev pub byte_step : State → ℕ → Option State
 byte_step state b = step state (class_of b)
 
--- a numeral may end here
+-- whether a numeral may end here
 abbrev pub is_final : State → Bool
 is_final (Decimal part) = may_end part
 is_final Under = true

@@ -24,7 +24,7 @@ quotient_of x = record { num = pos x.num; den = pos x.den }
 abbrev pub digits_in : Decimal → List ℕ
 digits_in d = d.whole.now ++ d.fraction.now
 
--- A shift by z places, or by a number that is past all lengths.
+-- A shift by z places; or one by 2^100 places in the direction of z, if z is at least that far.
 abbrev pub IsShift : ℕ → ℕ → ℤ → Type 0
 IsShift up down z = (z ≡ pos up -ℤ pos down)
     ⊎ (((up ≡ 2 ^ 100) × (down ≡ 0) × (pos (2 ^ 100) ≤ℤ z)) ⊎ ((up ≡ 0) × (down ≡ 2 ^ 100) × (z ≤ℤ neg_ℤ (pos (2 ^ 100)))))

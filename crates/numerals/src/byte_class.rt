@@ -8,7 +8,7 @@ pub enum Class {
     Digit,
     Sign,
     Point,
-    /// The mark of an exponent.
+    /// The mark of an exponent, `e` or `E`.
     Mark,
     Slash,
     Other,

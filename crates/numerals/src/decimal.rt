@@ -51,7 +51,7 @@ impl<'a> Decimal<'a> {
         }
     }
 
-    /// Returns the number that its first digits write.
+    /// Returns the number that the first `len` digits of the decimal denote.
     fn number(&self, len: usize) -> u128
         requires digits { AreDigits (digits_in self.now) }
         requires few { len ≤ 38 }
@@ -64,7 +64,7 @@ impl<'a> Decimal<'a> {
         extended(whole, &self.fraction[..len - whole_len])
     }
 
-    /// Returns its value without a sign.
+    /// Returns the value of the decimal with the shift of its exponent, or `TooManyDigits`.
     pub fn value(&self, shift: Shift) -> Result<Size, NumberFault>
         requires { AreDigits (digits_in self.now) }
         ensures { GivesDecimal self.now shift result }
@@ -87,7 +87,7 @@ fn power(exponent: u128) -> u128
     10u128.pow(exponent as u32)
 }
 
-/// Whether this number of digits, multiplied by ten and divided by ten this number of times, pass the limit.
+/// Whether a number of `len` digits, multiplied by ten `up` times and divided by ten `down` times, passes the limit of digits.
 fn passes_limit(len: u128, up: u128, down: u128) -> bool
     requires len { len < 2 ^ 101 }
     requires up { up < 2 ^ 101 }
@@ -98,7 +98,7 @@ fn passes_limit(len: u128, up: u128, down: u128) -> bool
     len > most || down > up + most || len + up > down + most
 }
 
-/// Returns the first digits of a number, multiplied by ten and divided by ten this number of times.
+/// Returns the number of the first `len` digits, multiplied by ten `up` times and divided by ten `down` times, or `TooManyDigits`.
 fn scaled(digits: &Decimal, len: u128, up: u128, down: u128) -> Result<Size, NumberFault>
     requires digits { AreDigits (digits_in digits.now) }
     requires len { len < 2 ^ 101 }

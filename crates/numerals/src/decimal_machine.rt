@@ -26,7 +26,7 @@ pub enum DecimalPart {
 }
 
 impl DecimalPart {
-    /// Returns what was read with a byte of this class more, or nothing if no decimal begins so.
+    /// Returns what is read after one more byte of this class, or nothing if no decimal begins so.
     pub(crate) fn step_class(self, class: Class) -> Option<DecimalPart>
         ensures { result ≡ decimal_step self class }
     {
@@ -45,7 +45,7 @@ impl DecimalPart {
         }
     }
 
-    /// Returns what was read with one byte more, or nothing if no decimal begins so.
+    /// Returns what is read after one more byte, or nothing if no decimal begins so.
     pub fn step(self, byte: u8) -> Option<DecimalPart>
         ensures { result ≡ decimal_byte self byte }
     {

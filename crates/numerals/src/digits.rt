@@ -28,7 +28,7 @@ fn digits_len(text: &[u8]) -> usize
     text.iter().take_while(|b| b.is_ascii_digit()).count()
 }
 
-/// Returns what follows a byte with which a text begins.
+/// Returns what follows the first byte of a text if that is `byte`, and nothing otherwise.
 pub fn behind(text: &[u8], byte: u8) -> Option<&[u8]>
     ensures { MatchOption result (BeginsOtherwise byte text.now) (λ rest. text.now ≡ byte ∷ rest.now) }
 {
@@ -69,7 +69,7 @@ pub fn trailing_zeros(digits: &[u8]) -> usize
     digits.iter().rev().take_while(|b| **b == b'0').count()
 }
 
-/// Returns the number that digits write if they follow those of another one.
+/// Returns the number that the digits of `start`, followed by these, denote.
 pub fn extended(start: u128, digits: &[u8]) -> u128
     requires digits { AreDigits digits.now }
     requires room { (start + 1) * 10 ^ length digits.now ≤ 10 ^ 38 }
@@ -83,7 +83,7 @@ pub fn extended(start: u128, digits: &[u8]) -> u128
     number
 }
 
-/// Returns the number that at most 38 digits write.
+/// Returns the number that at most 38 digits denote.
 pub fn number(digits: &[u8]) -> u128
     requires digits { AreDigits digits.now }
     requires few { length digits.now ≤ 38 }
@@ -93,10 +93,10 @@ pub fn number(digits: &[u8]) -> u128
     extended(0, digits)
 }
 
-/// A number past all lengths.
+/// A number that is greater than the length of any text: 2^100.
 pub const FAR: u128 = 0x10000000000000000000000000;
 
-/// Returns the number that digits write, or `FAR` if that is less.
+/// Returns the number that digits denote, or `FAR` if that is less.
 pub fn number_to_far(digits: &[u8]) -> u128
     requires { AreDigits digits.now }
     ensures { result ≡ min (digits_value 10 digits.now) FAR }

@@ -1,4 +1,4 @@
-//! Numerals, such as `-1.5e3` and `2/3`: their grammar, what they are worth, and the reader of them.
+//! Numerals, such as `-1.5e3` and `2/3`: their grammar, their values, and their reader.
 //!
 //! The grammar is `IsNumeral` in `specs/Numeral.antt`, and the value of a numeral is `IsNumeralOf`. `IsParseFault` states the
 //! four faults of the other texts. `fraction` makes one function of the two, `numeral_of`.

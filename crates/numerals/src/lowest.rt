@@ -16,7 +16,7 @@ fn with_sign(negative: bool, size: u128) -> Whole
     if negative { whole.negated() } else { whole }
 }
 
-/// Returns the quotient of two numbers that have no common divisor above 1, after a sign.
+/// Returns the quotient, with a sign, of two numbers that have no common divisor above 1.
 pub fn reduced(negative: bool, size: &Size) -> Ratio
     requires { gcd size.now.num size.now.den ≡ 1 }
     ensures { terms result ≡ record { num = with_sign negative size.now.num; den = pos size.now.den } }
@@ -24,7 +24,7 @@ pub fn reduced(negative: bool, size: &Size) -> Ratio
     Ratio::of_wholes(with_sign(negative, size.num), with_sign(false, size.den))
 }
 
-/// Returns two numbers without their common divisors.
+/// Returns two numbers, each divided by their greatest common divisor.
 #[tactic(auto, using(crate::proofs::LowestTerms::divided))]
 pub fn divided(num: u128, den: u128) -> (u128, u128)
     requires { 0 < den }
@@ -39,7 +39,7 @@ pub fn divided(num: u128, den: u128) -> (u128, u128)
     (num / divisor, den / divisor)
 }
 
-/// Returns the quotient of two numbers in lowest terms, after a sign.
+/// Returns the quotient of two numbers in lowest terms, with a sign.
 #[tactic(auto, unfolding(crate::specs::Lowest::lowest_of))]
 pub fn lowest(negative: bool, size: &Size) -> Ratio
     ensures { terms result ≡ lowest_of negative size.now.num size.now.den }

@@ -18,7 +18,7 @@ pub enum State {
     Under,
 }
 
-/// Returns what was read with one byte more, or nothing if no numeral begins so.
+/// Returns what is read after one more byte of this class, or nothing if no numeral begins so.
 pub fn step(state: State, class: Class) -> Option<State>
     ensures { result ≡ step state class }
 {

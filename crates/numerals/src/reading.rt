@@ -9,7 +9,7 @@ use crate::lowest::lowest;
 use crate::value::value;
 use field_core::Ratio;
 
-/// Returns the value of a numeral in lowest terms, or the fault of a text.
+/// Returns the value of a numeral in lowest terms, or why the text has no value.
 pub fn parse(text: &[u8]) -> Result<Ratio, NumberFault>
     ensures found { IfOk result (IsRatioText text.now) }
     ensures fault { IfErr result (IsParseFault text.now) }

@@ -10,7 +10,7 @@ use crate::digits::{
 use crate::shift::Shift;
 use crate::size::Size;
 
-/// Returns the quotient of two numbers, each by its digits.
+/// Returns the quotient of two numbers that are given by their digits, or `ZeroDenominator` or `TooManyDigits`.
 fn pair(over: &[u8], under: &[u8]) -> Result<Size, NumberFault>
     requires over { AreDigits over.now }
     requires under { AreDigits under.now }
@@ -30,7 +30,7 @@ fn pair(over: &[u8], under: &[u8]) -> Result<Size, NumberFault>
     })
 }
 
-/// Returns the shift that an exponent makes, or that of no exponent.
+/// Returns the shift that an exponent makes; the shift of an empty text is 0.
 fn shift(exponent: &[u8]) -> Shift
     ensures { GivesShift exponent.now result }
 {
@@ -46,7 +46,7 @@ fn shift(exponent: &[u8]) -> Shift
     Shift { up: size, down: 0 }
 }
 
-/// Returns the value of what follows the sign of a numeral.
+/// Returns the value of what follows the sign of a numeral, or `ZeroDenominator` or `TooManyDigits`.
 pub fn value(body: &[u8]) -> Result<Size, NumberFault>
     ensures { GivesBody body.now result }
 {

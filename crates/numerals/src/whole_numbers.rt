@@ -1,4 +1,4 @@
-//! Whole numbers that short texts of digits write.
+//! Whole numbers that short texts of digits denote.
 ghost use Rattle.std.specs.Prelude.{◌≡◌, ◌≤◌, ◌<◌, ◌^◌, ℕ, IfSome, IfNone};
 ghost use Rattle.std.specs.Char.{is_ascii_digit};
 ghost use Rattle.std.specs.List.{list_all};
@@ -13,7 +13,7 @@ pub fn are_digits(text: &[u8]) -> bool
     text.iter().all(|byte| byte.is_ascii_digit())
 }
 
-/// Returns the number that a text of 1 to `most` digits writes.
+/// Returns the number that a text of 1 to `most` digits denotes, and nothing for any other text.
 #[tactic(auto, using(crate::proofs::WholeNumbers::whole_numbers))]
 pub fn whole_number(text: &[u8], most: usize) -> Option<u128>
     requires { most ≤ 38 }

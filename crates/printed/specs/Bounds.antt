@@ -1,4 +1,4 @@
--- What `bounds` prints has the bound of each set by the closed test.
+-- `bounds` prints the bound of each set by the closed test.
 use Rattle.std.specs.Prelude.{◌≡◌, ◌<◌, ◌^◌, ℕ, Bool, List, Option, Some, length}
 use Rattle.field_core.specs.NumberedSets.{members}
 use Rattle.field_core.specs.declared.ratio.Ratio.{Ratio}
@@ -21,7 +21,7 @@ use Rattle.printed.specs.Sets.{AreAllSetsOnce, CountFalseMembers}
 abbrev pub RejectsSet : Content → List Ratio → (ℕ → Bool) → Type 0
 RejectsSet c ps = IsClosedRejected (entangled c) (number_at ps) (number_of c.alpha)
 
--- this is the size of a set less the greatest size of a subset that the closed test doesn't reject
+-- the bound of a set is its size minus the greatest size of a subset that the closed test doesn't reject
 abbrev pub IsClosedBoundIn : Content → (ℕ → Bool) → ℕ → Type 0
 IsClosedBoundIn c S b = ForSingle c.inputs (λ ps. IsBound (length c.names) (RejectsSet c ps) S b)
 
@@ -29,7 +29,7 @@ IsClosedBoundIn c S b = ForSingle c.inputs (λ ps. IsBound (length c.names) (Rej
 abbrev pub ClosedBoundsCountFalse : Content → (ℕ → ℕ) → Type 0
 ClosedBoundsCountFalse c bound = ForSingle c.inputs (λ ps. CountFalseMembers (length c.names) (RejectsSet c ps) bound)
 
--- The text is a report with exactly one line for each set that isn't empty. The bounds in it are those of the sets by the closed test.
+-- The text is a report with exactly one line for each set that isn't empty, and the bounds in it are those of the sets by the closed test.
 pub record ReportsSetBounds (c : Content) (text : List ℕ) : Type 0 where
   pub bound : ℕ → ℕ
   pub sets : List ℕ
@@ -38,7 +38,7 @@ pub record ReportsSetBounds (c : Content) (text : List ℕ) : Type 0 where
   pub bounds : (n : ℕ) → n < 2 ^ length c.names → IsClosedBoundIn c (members n) (bound n)
   pub counts : ClosedBoundsCountFalse c bound
 
--- what words that ask for `bounds` are answered with status 0 reports the bounds of all sets of the case
+-- an answer with status 0 to words that request `bounds` reports the bounds of all sets of the case
 abbrev pub BoundsAreOfTheClosedTest : Type 0
 BoundsAreOfTheClosedTest = (words : List (List ℕ)) (format : Encoding) (case : List ℕ) (proof : Option (List ℕ)) (a : Answer)
     → AskFor words (on_case format Bounds) → IsAnswerOf (outcome words (Some case) proof) a → a.status ≡ Done

@@ -13,7 +13,7 @@ use Rattle.graph_cli.specs.Accepted.{case_in}
 use Rattle.graph_cli.specs.Laws.{ReportsCase}
 use Rattle.graph_cli.specs.Outcome.{AskFor, outcome}
 
--- how what is printed of a case in a format is read again: in that format, and a sheet at the level of the case
+-- how the text that is printed of a case in a format is read again: in that format, and a sheet at the level of the case
 abbrev pub read_again : Format → Content → Encoding
 read_again Text c = text
 read_again Csv c = csv (terms c.alpha)
@@ -24,25 +24,25 @@ pub record IsReadAs (format : Format) (c : Content) (printed : List ℕ) : Type 
   pub reads : (case_in (read_again format c) printed).Gives c
   pub only : (d : Content) → (case_in (read_again format c) printed).Gives d → d ≡ c
 
--- what words that ask for `canon` are answered with status 0, in whatever format, is read in that format as the case that the bytes say
+-- an answer with status 0 to words that request `canon`, in whatever format, is read in that format as the case that the bytes denote
 abbrev pub CanonIsReadAsTheCase : Type 0
 CanonIsReadAsTheCase = (words : List (List ℕ)) (format : Encoding) (to : Format) (case : List ℕ) (proof : Option (List ℕ)) (a : Answer)
     → AskFor words (on_case format (Canon to)) → IsAnswerOf (outcome words (Some case) proof) a → a.status ≡ Done
     → ReportsCase (IsReadAs to) format case a.text
 
--- two cases have one level, if the format is a sheet, which doesn't hold the level
+-- if the format is a sheet, which doesn't hold the level, two cases have the same level
 abbrev pub LevelsAgree : Format → Content → Content → Type 0
 LevelsAgree Text c d = Unit {0}
 LevelsAgree Csv c d = c.alpha ≡ d.alpha
 LevelsAgree Json c d = Unit {0}
 
--- two texts are printed of two cases: they are the same text if the cases are the same, and no others have the same text
+-- Two texts of two cases in a format: they are the same if the cases are. If they are the same, and for a sheet the levels too, so are the cases.
 pub record AreSameTogether (format : Format) (c d : Content) (one other : List ℕ) : Type 0 where
   pub same_text : c ≡ d → one ≡ other
   pub same_case : LevelsAgree format c d → one ≡ other → c ≡ d
 
--- Words that ask for `canon` in one format, and two cases that are answered with status 0, however they are written. The two texts are the same exactly
--- if the cases are. If the format is a sheet, the cases have the same level.
+-- Two cases, however they are written, are answered with status 0 to words that request `canon` in one format. The two texts are the same exactly if the
+-- cases are; if the format is a sheet, this is stated of cases with the same level.
 abbrev pub CanonTellsCasesApart : Type 0
 CanonTellsCasesApart =
     (words others : List (List ℕ)) (format other_format : Encoding) (to : Format) (case other : List ℕ) (proof other_proof : Option (List ℕ)) (a b : Answer)

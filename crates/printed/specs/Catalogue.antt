@@ -42,8 +42,8 @@ graph_size (ImprovedParallel a b) = a + b
 abbrev pub twentieth : Number
 twentieth = one_over 20
 
--- Bytes say the case with p-values, in whatever format, and aren't more than an input may have. Then what words that ask for `test` are answered has
--- the status 0, by any priority, and reports the rule.
+-- Bytes denote the case with p-values, in whatever format, and aren't more than an input may have. Then an answer to words that request `test`, by any
+-- priority, has the status 0 and reports the rule.
 abbrev pub IsTestedBy : ((ℕ → Number) → ℕ → Type 0) → Content → Type 0
 IsTestedBy Rejects c = (words : List (List ℕ)) (format : Encoding) (priority : Priority) (bytes : List ℕ) (proof : Option (List ℕ)) (ps : List Ratio)
     (a : Answer) → ArePValues (length c.names) ps → (case_in format bytes).Gives (with_p c ps) → length bytes ≤ most_bytes
@@ -56,8 +56,9 @@ pub record DecidesBy (Rejects : (ℕ → Number) → ℕ → Type 0) (c : Conten
   pub never_wide : (ps : List Ratio) → ArePValues (length c.names) ps → IsNeverWide (with_p c ps)
   pub tested : IsTestedBy Rejects c
 
--- The case has the graph of the textbooks, and is decided by their rule at the level 1/20. Fallback has equal weights. Improved parallel gatekeeping has no
--- such rule, since a primary hypothesis gets back as much as secondary ones lead to it. Also, its graph of 32 and 32 hypotheses is too wide.
+-- The case has the graph of the textbooks, and is decided by their rule at the level 1/20. The weights of fallback are equal. Improved parallel
+-- gatekeeping has no such rule, since how much a primary hypothesis gets back depends on how many secondary ones lead to it. Also, its graph of 32 and
+-- 32 hypotheses is too wide.
 abbrev pub HasItsRule : SizedGraph → Content → Type 0
 HasItsRule (Holm n) c = IsHolmGraph (entangled c) × DecidesBy (λ p. IsHolmRejected p twentieth n) c
 HasItsRule (FixedSequence n) c = IsSequenceGraph (entangled c) × DecidesBy (λ p. IsSequenceRejected p twentieth n) c
@@ -77,7 +78,7 @@ pub record PrintsNamedGraph (graph : SizedGraph) (printed : List ℕ) : Type 0 w
   pub filled : (ps : List Ratio) → ArePValues (length case.names) ps → IsValidContent (with_p case ps)
   pub rule : HasItsRule graph case
 
--- what words that ask for `catalogue` are answered with status 0 is read as the case of the named graph
+-- an answer with status 0 to words that request `catalogue` is read as the case of the named graph
 abbrev pub CatalogueIsOfTheNamedGraphs : Type 0
 CatalogueIsOfTheNamedGraphs = (words : List (List ℕ)) (graph : SizedGraph) (case proof : Option (List ℕ)) (a : Answer)
     → AskFor words (catalogue graph) → IsAnswerOf (outcome words case proof) a → a.status ≡ Done → PrintsNamedGraph graph a.text

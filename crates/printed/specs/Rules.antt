@@ -1,4 +1,4 @@
--- Cases on the graphs of textbook rules, whoever wrote them, are decided by the rules at their own level.
+-- Cases on the graphs of textbook rules, whoever wrote the cases, are decided by the rules at the level of the case.
 use Rattle.std.specs.Prelude.{◌≡◌, ◌↔◌, ◌≤◌, ◌<◌, ℕ, suc, pos, true, List, Option, Some, length}
 use Rattle.field_core.specs.Fractions.{fraction}
 use Rattle.field_core.specs.Number.{Number}
@@ -35,7 +35,7 @@ pub record ReportsRule (Rejects : ℕ → Type 0) (priority : Priority) (c : Con
   pub values : AreAdjusted c adjusted
 
 -- Bytes denote, in whatever format, a case with p-values and with fractions alone, on a graph of some kind, and aren't more than an input may have. Then
--- what words that ask for `test` are answered has the status 0, by any priority, and reports what a rule rejects.
+-- an answer to words that request `test`, by any priority, has the status 0 and reports what a rule rejects.
 abbrev pub AreTestedBy : (Content → Type 0) → (Content → List Ratio → ℕ → Type 0) → Type 0
 AreTestedBy HasGraph Rejects =
     (words : List (List ℕ)) (format : Encoding) (priority : Priority) (bytes : List ℕ) (proof : Option (List ℕ)) (c : Content) (ps : List Ratio) (a : Answer)
@@ -48,7 +48,7 @@ abbrev pub HolmGraphsAreTestedByHolm : Type 0
 HolmGraphsAreTestedByHolm =
     AreTestedBy (λ c. IsHolmGraph (entangled c)) (λ c ps. IsHolmRejected (number_at ps) (number_of c.alpha) (length c.names))
 
--- on the graph of a fixed sequence it rejects what the fixed sequence rejects
+-- on the graph of a fixed sequence `test` rejects what the fixed sequence rejects
 abbrev pub SequencesAreTestedInOrder : Type 0
 SequencesAreTestedInOrder =
     AreTestedBy (λ c. IsSequenceGraph (entangled c)) (λ c ps. IsSequenceRejected (number_at ps) (number_of c.alpha) (length c.names))
@@ -57,14 +57,14 @@ SequencesAreTestedInOrder =
 abbrev pub over : (ℕ → ℕ) → ℕ → ℕ → Number
 over a d i = fraction (pos (a i)) (pos (suc d))
 
--- on a fallback graph whose weights have a common denominator of at most 100,000,000 it rejects what fallback with these weights rejects
+-- on a fallback graph whose weights have a common denominator of at most 100,000,000 `test` rejects what fallback with these weights rejects
 abbrev pub FallbacksAreTestedByFallback : Type 0
 FallbacksAreTestedByFallback =
     (a : ℕ → ℕ) (d : ℕ) → d < 100000000
     → AreTestedBy (λ c. IsFallbackGraph (over a d) (entangled c))
     (λ c ps. IsFallbackRejected (number_at ps) (number_of c.alpha) (length c.names) (over a d))
 
--- on the graph of parallel gatekeeping with `a` primary and `b` secondary hypotheses it rejects what parallel gatekeeping rejects
+-- on the graph of parallel gatekeeping with `a` primary and `b` secondary hypotheses `test` rejects what parallel gatekeeping rejects
 abbrev pub GatesAreTestedByGatekeeping : Type 0
 GatesAreTestedByGatekeeping =
     (a b : ℕ)

@@ -1,4 +1,4 @@
--- Lists of all sets of a case, and what is known of closed tests by weights and of bounds from what is printed.
+-- Lists of all sets of a case, and bounds of the number of false hypotheses in sets.
 use Rattle.std.specs.Prelude.{◌≡◌, ◌<◌, ◌≤◌, ◌^◌, ◌==◌, ◌&&◌, not, ℕ, Bool, List, count_by}
 use Rattle.field_core.specs.NumberedSets.{members}
 use Rattle.field_core.specs.Sets.{size_of}

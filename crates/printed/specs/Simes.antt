@@ -1,4 +1,4 @@
--- What `simes` prints is of the closed test of weighted Simes tests.
+-- `simes` prints the rejections and bounds of the closed test of weighted Simes tests.
 use Rattle.std.specs.Prelude.{◌≡◌, ◌<◌, ◌≤◌, ◌^◌, ◌↔◌, ℕ, Bool, true, List, Option, Some, length, take}
 use Rattle.field_core.specs.NumberedSets.{members}
 use Rattle.field_core.specs.Sets.{set_of}
@@ -23,11 +23,11 @@ use Rattle.printed.specs.Sets.{AreAllSetsOnce, CountFalseMembers}
 abbrev pub IsSimesRejectedIn : Content → ℕ → Type 0
 IsSimesRejectedIn c j = ForSingle c.inputs (λ ps. IsSimesClosedAlone (entangled c) (number_at ps) (number_of c.alpha) j)
 
--- it rejects a set, by these p-values
+-- the closed test of weighted Simes tests rejects a set, by these p-values and at the level of the case
 abbrev pub SimesRejectsSet : Content → List Ratio → (ℕ → Bool) → Type 0
 SimesRejectsSet c ps = IsSimesClosed (entangled c) (number_at ps) (number_of c.alpha)
 
--- this is the size of a set less the greatest size of a subset that this closed test doesn't reject
+-- the bound of a set is its size minus the greatest size of a subset that this closed test doesn't reject
 abbrev pub IsSimesBoundIn : Content → (ℕ → Bool) → ℕ → Type 0
 IsSimesBoundIn c S b = ForSingle c.inputs (λ ps. IsBound (length c.names) (SimesRejectsSet c ps) S b)
 
@@ -36,7 +36,7 @@ abbrev pub SimesBoundsCountFalse : Content → (ℕ → ℕ) → Type 0
 SimesBoundsCountFalse c bound = ForSingle c.inputs (λ ps. CountFalseMembers (length c.names) (SimesRejectsSet c ps) bound)
 
 -- The text is a report with exactly one line for each set that isn't empty. Its bounds and its line `rejected` are those of this closed test.
--- Its lines `top` have the bounds of the first, the first two, and so on, by ascending p-value.
+-- Its lines `top` name the bounds of the first hypothesis, the first two, and so on, by ascending p-value.
 pub record ReportsSimesTest (c : Content) (text : List ℕ) : Type 0 where
   pub bound : ℕ → ℕ
   pub closed : ℕ → Bool
@@ -50,7 +50,7 @@ pub record ReportsSimesTest (c : Content) (text : List ℕ) : Type 0 where
   pub tops : (k : ℕ) → k ≤ length c.names → IsSimesBoundIn c (set_of (take k leaders)) (bound (first_set c leaders k))
   pub counts : SimesBoundsCountFalse c bound
 
--- what words that ask for `simes` are answered with status 0 reports the closed test of weighted Simes tests on the case
+-- an answer with status 0 to words that request `simes` reports the closed test of weighted Simes tests on the case
 abbrev pub SimesReportsAreOfTheSimesTest : Type 0
 SimesReportsAreOfTheSimesTest = (words : List (List ℕ)) (format : Encoding) (case : List ℕ) (proof : Option (List ℕ)) (a : Answer)
     → AskFor words (on_case format Simes) → IsAnswerOf (outcome words (Some case) proof) a → a.status ≡ Done

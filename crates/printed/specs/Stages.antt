@@ -1,4 +1,4 @@
--- What `stages` prints doesn't depend on the order of the arrivals, as far as its line `rejected` goes.
+-- The line `rejected` that `stages` prints doesn't depend on the order of the arrivals.
 use Rattle.std.specs.Prelude.{◌≡◌, ◌↔◌, ℕ, List, Option, Some}
 use Rattle.std.specs.List.{Contains}
 use Rattle.answers.specs.declared.answer.Answer.{Answer}
@@ -31,7 +31,8 @@ pub record RejectAlike (c d : Content) (one other : List ℕ) : Type 0 where
   pub other_is : other ≡ stages_report d other_looks
   pub same_line : settled_line c looks ≡ settled_line d other_looks
 
--- What `stages` answers with status 0 of two cases that differ at most in the order of their arrivals, however they are written, has one line `rejected`.
+-- The answers of `stages` with status 0 for two cases that differ at most in the order of their arrivals, however they are written, have the same line
+-- `rejected`.
 abbrev pub StagesAgreeInEveryOrder : Type 0
 StagesAgreeInEveryOrder =
     (words others : List (List ℕ)) (format other_format : Encoding) (case other : List ℕ) (proof other_proof : Option (List ℕ)) (a b : Answer)

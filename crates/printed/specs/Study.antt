@@ -1,4 +1,4 @@
--- What `study` prints is of the staged closed test, on the looks that are kept by then.
+-- `study` prints the rejections of the staged closed test on the looks that are kept at each point.
 use Rattle.std.specs.Prelude.{◌≡◌, ◌↔◌, ◌⊎◌, ◌++◌, ℕ, true, List, [], ◌∷◌, Some, length}
 use Rattle.graph_io.specs.declared.keeper.Look.{Look}
 use Rattle.answers.specs.declared.status.Status.TheVariants.{Done}
@@ -17,7 +17,7 @@ use Rattle.study_register.specs.Looking.{arrivals_of, AreTaken}
 use Rattle.graph_cli.specs.Laws.{ReportsCase}
 use Rattle.graph_cli.specs.Outcome.{AskStudy}
 
--- A line `show` has the number of these looks, and names exactly the hypotheses that the staged closed test rejects on them.
+-- A line `show` names the number of the looks, and exactly the hypotheses that the staged closed test rejects on them.
 pub record ShowsStagedTest (c : Content) (looks : List Look) (number : ℕ) (rejections : List Settled) : Type 0 where
   pub counted : number ≡ length looks
   pub named : (j : ℕ) → (is_among rejections j ≡ true) ↔ IsStagedRejectedIn c (arrivals_of looks) j
@@ -27,7 +27,7 @@ abbrev pub BringsRejections : Content → List Look → Look → List Settled �
 BringsRejections c before l added = (j : ℕ) → IsStagedRejectedIn c (arrivals_of (before ++ l ∷ [])) j
     ↔ (IsStagedRejectedIn c (arrivals_of before) j ⊎ (is_among added j ≡ true))
 
--- The text is the report of the replies to the commands that some bytes say. The looks that it reports as taken are those that are kept also.
+-- The text is the report of the replies to the commands that the bytes denote. The looks that are kept in addition are those that it reports as taken.
 pub record ReportsStudy (c : Content) (commands : List ℕ) (kept more : List Look) (text : List ℕ) : Type 0 where
   pub list : List StudyCommand
   pub says : AreCommands c.names commands list
@@ -43,7 +43,7 @@ pub record ReportsStudy (c : Content) (commands : List ℕ) (kept more : List Lo
   pub brings : (before after : List Reply) (l : Look) (added : List Settled) → replies ≡ before ++ taken l added ∷ after
       → BringsRejections c (kept ++ looks_taken before) l added
 
--- what words that ask for `study` are answered with status 0 reports the staged closed test on the case and on all looks that are kept by then
+-- an answer with status 0 to words that request a study reports the staged closed test on the case and on the looks that are kept at each point
 abbrev pub StudiesAreOfTheStagedTest : Type 0
 StudiesAreOfTheStagedTest = (words : List (List ℕ)) (asked : StudyAsked) (case commands : List ℕ) (kept : List Look) (e : StudyEnd)
     → AskStudy words asked → (study_outcome words (Some case) (Some commands) (Some kept)).Gives e → e.answer.status ≡ Done

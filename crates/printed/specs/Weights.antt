@@ -1,4 +1,4 @@
--- What `weights` prints has the weights of all intersections, and they suffice for the closed test by whatever p-values.
+-- `weights` prints the weights of all intersections, and they suffice for the closed test by whatever p-values.
 use Rattle.std.specs.Prelude.{◌≡◌, ◌<◌, ◌^◌, ◌↔◌, ℕ, true, List, Option, Some, length}
 use Rattle.field_core.specs.Number.{Number}
 use Rattle.field_core.specs.NumberedSets.{members}
@@ -18,15 +18,15 @@ use Rattle.graph_cli.specs.Laws.{ReportsCase}
 use Rattle.graph_cli.specs.Outcome.{AskFor, outcome}
 use Rattle.printed.specs.Sets.{AreAllSetsOnce}
 
--- of `m` hypotheses, some member of the set of `n` has a p-value that passes at its weight there and a level
+-- of `m` hypotheses, some member of the set with the number `n` has a p-value that passes at its weight there and a level
 pub record HasMemberPassing (m : ℕ) (weight : ℕ → ℕ → Ratio) (p : ℕ → Number) (level : Number) (n : ℕ) : Type 0 where
   pub hypothesis : ℕ
   pub member : IsIn m (members n) hypothesis
   pub passes : Passes (p hypothesis) (number_of (weight n hypothesis)) level
 
--- The text is a report with exactly one line for each set that isn't empty. The weights in it are those of the members in the intersections. They
--- suffice for the closed test, by whatever p-values and level. The local test rejects exactly the sets of which some member passes at its weight
--- there. The closed test rejects exactly the hypotheses all of whose sets have such a member.
+-- The text is a report with exactly one line for each set that isn't empty, and the weights in it are those of the members in the intersections. They
+-- suffice for the closed test, by whatever p-values and level: the local test rejects exactly the sets of which some member passes at its weight there.
+-- The closed test rejects exactly the hypotheses all of whose sets have such a member.
 pub record ReportsSetWeights (c : Content) (text : List ℕ) : Type 0 where
   pub weight : ℕ → ℕ → Ratio
   pub sets : List ℕ
@@ -39,7 +39,7 @@ pub record ReportsSetWeights (c : Content) (text : List ℕ) : Type 0 where
   pub decides : (p : ℕ → Number) (level : Number) (j : ℕ) → j < length c.names → IsRejected (entangled c) p level j
       ↔ ((n : ℕ) → n < 2 ^ length c.names → members n j ≡ true → HasMemberPassing (length c.names) weight p level n)
 
--- what words that ask for `weights` are answered with status 0 reports the weights of all intersections of the case
+-- an answer with status 0 to words that request `weights` reports the weights of all intersections of the case
 abbrev pub WeightsAreOfTheIntersections : Type 0
 WeightsAreOfTheIntersections = (words : List (List ℕ)) (format : Encoding) (case : List ℕ) (proof : Option (List ℕ)) (a : Answer)
     → AskFor words (on_case format Weights) → IsAnswerOf (outcome words (Some case) proof) a → a.status ≡ Done

@@ -10,7 +10,8 @@ ghost use Rattle.printed.specs.Study.{StudiesAreOfTheStagedTest};
 ghost use Rattle.printed.specs.Weights.{WeightsAreOfTheIntersections};
 
 /// What `canon` prints in a format with status 0 is read in that format as the case that was read, and as no other. Two cases
-/// have the same text in a format exactly if they are the same case; a sheet doesn't hold its level.
+/// have the same text in a format exactly if they are the same case. A sheet doesn't hold its level, so this is stated of sheets
+/// with the same level.
 pub fn canon_is_read_as_the_case()
     ensures back { CanonIsReadAsTheCase }
     ensures apart { CanonTellsCasesApart }
@@ -23,7 +24,7 @@ pub fn simes_reports_are_of_the_simes_test()
 {}
 
 /// What `weights` prints with status 0 has one line for each set that isn't empty, with the weights of its members in the
-/// intersection. By whatever p-values and level, the closed test can be done by them.
+/// intersection. These weights suffice for the closed test, by whatever p-values and level.
 pub fn weights_are_of_the_intersections()
     ensures { WeightsAreOfTheIntersections }
 {}
@@ -33,15 +34,15 @@ pub fn bounds_are_of_the_closed_test()
     ensures { BoundsAreOfTheClosedTest }
 {}
 
-/// What `catalogue` prints with status 0 is read as the case of the named graph. Where the graph has a textbook rule, `test`
-/// on the case with p-values ends with status 0, and names exactly what the rule rejects.
+/// What `catalogue` prints with status 0 is read as the case of the named graph. If the graph has a textbook rule, `test` on
+/// the case with p-values ends with status 0, and names exactly what the rule rejects.
 pub fn catalogue_is_of_the_named_graphs()
     ensures { CatalogueIsOfTheNamedGraphs }
 {}
 
-/// On the graph of a textbook rule, `test` ends with status 0 and names exactly what the rule rejects at the level of the case.
-/// The case is any one with p-values and with fractions alone. The graph is Holm's, a fixed sequence, that of parallel
-/// gatekeeping, or a fallback graph whose weights have a common denominator of at most 100,000,000.
+/// On any case with p-values and only fractions, `test` ends with status 0 and names exactly what the textbook rule of its graph
+/// rejects at the case's level. The graph is Holm's, a fixed sequence, that of parallel gatekeeping, or a fallback graph whose
+/// weights have a common denominator of at most 100,000,000.
 pub fn textbook_graphs_are_tested_by_their_rules()
     ensures holm { HolmGraphsAreTestedByHolm }
     ensures sequence { SequencesAreTestedInOrder }
@@ -49,14 +50,15 @@ pub fn textbook_graphs_are_tested_by_their_rules()
     ensures gatekeeping { GatesAreTestedByGatekeeping }
 {}
 
-/// What `stages` prints with status 0 of two cases that differ at most in the order of their arrivals has one line `rejected`.
+/// What `stages` prints with status 0 for two cases that differ at most in the order of their arrivals has the same line
+/// `rejected`.
 pub fn stages_agree_in_every_order()
     ensures { StagesAgreeInEveryOrder }
 {}
 
 /// What `study` prints with status 0 is the report of the replies to its commands. Each line `show` names exactly what the
-/// staged closed test rejects on the looks that are kept by then. The lines `reject` after a look name what the test rejects
-/// with it, beyond what it rejected before.
+/// staged closed test rejects on the looks that are kept at this point. The lines `reject` after a look name what the test
+/// rejects with this look, in addition to what it rejected before.
 pub fn studies_are_of_the_staged_test()
     ensures { StudiesAreOfTheStagedTest }
 {}

@@ -1,10 +1,11 @@
-//! What the program prints, by laws over words and bytes: of `canon`, `simes`, `weights`, `bounds`, `catalogue` and `study`.
-//! There are also laws of `test` on the graphs of textbook rules, and of `stages` in each order. The others of `test` and `stages`,
-//! and those of `sample`, `check` and `evidence`, are in `graph_cli`.
+//! Laws, over words and bytes, of what the program prints: of `canon`, `simes`, `weights`, `bounds`, `catalogue` and `study`.
+//! There are also laws of `test` on the graphs of textbook rules, and of `stages` in each order. The other laws of `test` and
+//! `stages`, and those of `sample`, `check` and `evidence`, are in `graph_cli`.
 //!
 //! Proved, for each answer with status 0:
 //! - `canon_is_read_as_the_case`: what `canon` prints in a format is read in that format as the case that was read, and as no
-//!   other. Two cases have the same text in a format exactly if they are the same case. (A sheet doesn't hold its level.)
+//!   other. Two cases have the same text in a format exactly if they are the same case. A sheet doesn't hold its level, so this is
+//!   stated of sheets with the same level.
 //! - `simes_reports_are_of_the_simes_test`: what `simes` prints names as rejected exactly the hypotheses that the closed test
 //!   of weighted Simes tests rejects. It has one line for each set that isn't empty, with its bound by that test.
 //! - `weights_are_of_the_intersections`: what `weights` prints has one line for each set that isn't empty, with the weights
@@ -12,16 +13,17 @@
 //! - `bounds_are_of_the_closed_test`: what `bounds` prints has one line for each set that isn't empty, with its bound by the
 //!   closed test. If the closed test doesn't reject the set of the true hypotheses, no bound is above the number of false
 //!   hypotheses in its set.
-//! - `catalogue_is_of_the_named_graphs`: what `catalogue` prints is read as the case of the named graph. On all of them but that
-//!   of improved parallel gatekeeping, by whatever p-values, the closed test rejects exactly what the textbook rule rejects.
-//!   `test` on the case with these p-values ends with status 0 and names exactly these hypotheses. Fallback has equal weights.
-//! - `textbook_graphs_are_tested_by_their_rules`: a case has p-values and fractions alone, and its graph is Holm's, a fixed
-//!   sequence, a fallback graph or that of parallel gatekeeping. On it `test` ends with status 0 and names exactly what the
-//!   textbook rule rejects at the level of the case.
-//! - `stages_agree_in_every_order`: two cases that differ at most in the order of their arrivals have one line `rejected`.
-//! - `studies_are_of_the_staged_test`: what `study` prints is the report of the replies to its commands. Each line `show`
-//!   names exactly what the staged closed test rejects on the looks that are kept by then. The lines `reject` after a look
-//!   name what the test rejects with it, beyond what it rejected before.
+//! - `catalogue_is_of_the_named_graphs`: what `catalogue` prints is read as the case of the named graph. On all named graphs
+//!   except that of improved parallel gatekeeping, by whatever p-values, the closed test rejects exactly what the textbook rule
+//!   rejects. `test` on the case with these p-values ends with status 0 and names exactly these hypotheses. The weights of
+//!   fallback are equal.
+//! - `textbook_graphs_are_tested_by_their_rules`: `test` on a case with p-values and only fractions ends with status 0, and names
+//!   exactly what the textbook rule of its graph rejects at the case's level. The graph is Holm's, a fixed sequence, that of
+//!   parallel gatekeeping, or a fallback graph whose weights have a common denominator of at most 100,000,000.
+//! - `stages_agree_in_every_order`: two cases that differ at most in the order of their arrivals have the same line `rejected`.
+//! - `studies_are_of_the_staged_test`: what `study` prints is the report of the replies to its commands. Each line `show` names
+//!   exactly what the staged closed test rejects on the looks that are kept at this point. The lines `reject` after a look name
+//!   what the test rejects with this look, in addition to what it rejected before.
 #![tactic(auto)]
 
 pub mod laws;

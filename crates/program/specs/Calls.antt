@@ -1,4 +1,4 @@
--- Which files a call of the program opens for its words, and what is done over them.
+-- Which files a call of the program opens for its words, and what it does over them.
 use Rattle.std.specs.Prelude.{◌≡◌, ◌⊎◌, ◌≤◌, ◌+◌, ◌-◌, ◌^◌, ℕ, min, List, [], Option, Some}
 use Rattle.std.specs.Io.KnownBytes.{IsAtEnd}
 use Rattle.std.specs.List.{slice_get}
@@ -26,7 +26,7 @@ IsAskedForFile Does words old new = (path : List ℕ) × NamesPath words path ×
 abbrev pub IsAskedForStore : {O : Type 0} → (O → Ask → O → Type 0) → List (List ℕ) → O → O → Type 0
 IsAskedForStore Does words old new = (path : List ℕ) × study.NamesStore words path × Does old (open_store path) new
 
--- There was no memory to open a file that the words name: the status is 8, and `same` says what is as it was.
+-- There was no memory to open a file or store that the words name: the status is 8, `same` states what is as it was, and `asked` what was requested.
 pub record IsStopped (status : ℕ) (same asked : Type 0) : Type 0 where
   pub status_is : status ≡ 8
   pub same_is : same
@@ -40,12 +40,13 @@ unread bytes = record { left = bytes; faults = 0; calls = 0 }
 abbrev pub uncalled : Option (List Look) → Keeping
 uncalled looks = record { looks = looks; faults = 0; calls = 0 }
 
--- A file that held this wasn't called: it holds the same, without a call and a fault.
+-- A file wasn't called: it holds what it held before, with no call and no fault.
 abbrev pub IsUnread : Option (List ℕ) → Reading → Type 0
 IsUnread before after = (after.left ≡ before) × (after.faults ≡ 0) × (after.calls ≡ 0)
 
--- What was done with a file. One that isn't read is as it was. With status 0, one that is read was read to its end. At most one byte more than it may
--- have was taken of it, by few takes. If it is read, and nothing before it is refused, a concluded call has taken from it.
+-- What was done with a file. If it isn't read, it is as it was. If it is read, it is at its end with status 0, and a concluded call has taken from it
+-- unless something before it is refused. In any case it is at its end, or at most one byte more than an input may have was taken from it. The number
+-- of takes is at most this number of bytes.
 pub record IsUsed (Reads Refuses : Type 0) (before : Option (List ℕ)) (after : Reading) (status : ℕ) : Type 0 where
   pub untouched : ¬ Reads → IsUnread before after
   pub end : Reads → status ≡ 0 → IsAtEnd after.left
@@ -53,8 +54,8 @@ pub record IsUsed (Reads Refuses : Type 0) (before : Option (List ℕ)) (after :
   pub taken : IsAtEnd after.left ⊎ TookAtMost before after.left (most_bytes + 1)
   pub turns : after.calls ≤ most_bytes + 1
 
--- A call that is none of a study: what was done is what `run` does over the file. The opener is `from` before it and `to` after it, and the file held
--- `before` and is `after`.
+-- A call that is not one of a study does what `run` does over the file. The opener is `from` before the call and `to` after it; the file held `before`,
+-- and is `after` then.
 pub record IsRun {O : Type 0} (words : List (List ℕ)) (case_old case_new : Reading) (from to : O) (before : Option (List ℕ)) (after : Reading)
     (out_old out_new : Writing) (status : ℕ) : Type 0 where
   pub same : to ≡ from
@@ -62,10 +63,10 @@ pub record IsRun {O : Type 0} (words : List (List ℕ)) (case_old case_new : Rea
   pub ran : Runs (graph.ways_of words case_old case_new (unread before) after) out_old out_new status
 
 module _ {O F K : Type 0} (opener : Ghosts O F K) (words : List (List ℕ)) where
-  -- A call was made over the file that the words name, and `Done` says what was done. The opener is `from` when it was requested to open the file,
-  -- and `to` after the call. `before` is what the file held, and `after` is the file then. It was given back with the number of its calls, and of
-  -- those that failed. A file that was refused has no bytes, and is not given back; each take from it failed. If no file is named, none is
-  -- requested.
+  -- A call was made over the file that the words name, and `Done` states what was done. The opener is `from` after the request to open the file, and
+  -- `to` after the call; the file held `before`, and is `after` then. It was given back with the number of its calls, and of those that failed. A file
+  -- that was refused has no bytes and is not given back, and each take from it failed. If no file is named, none is requested, and the call is made
+  -- over no bytes, without a fault.
   pub record IsOver (old new : O) (Done : O → O → Option (List ℕ) → Reading → Type 0) : Type 0 where
     pub from : O
     pub to : O
@@ -78,16 +79,15 @@ module _ {O F K : Type 0} (opener : Ghosts O F K) (words : List (List ℕ)) wher
         ⊎ (((path : List ℕ) → ¬ NamesPath words path) × (from ≡ old) × (new ≡ to) × (before ≡ Some []) × (after.faults ≡ 0))
     pub done : Done from to before after
 
-  -- The store that the words name was requested, and held the looks `kept`. It was given back as it is then, with its looks, and with the number of its
-  -- calls, and of those that failed. If no store is named, none is requested, there are no looks before and no faults, and the number of calls is left
-  -- open.
+  -- The store that the words name was requested, and held the looks `kept`. It was given back with its looks then, the number of its calls, and that of
+  -- those that failed. If no store is named, none is requested, there are no looks before and no faults, and the number of calls is left open.
   abbrev pub IsStored : (from to : O) → (kept : Option (List Look)) → (store : Keeping) → Type 0
   IsStored from to kept store =
       ((path : List ℕ) × study.NamesStore words path × (asked : O) × opener.does from (open_store path) asked × (kept ≡ opener.looks_at from path)
       × opener.does asked (close_store path store.looks store.faults store.calls) to)
       ⊎ (((path : List ℕ) → ¬ study.NamesStore words path) × (to ≡ from) × (kept ≡ Some []) × (store.faults ≡ 0))
 
-  -- A call of a study: what was done is what `run_study` does over the file and the looks that were kept.
+  -- A call of a study does what `run_study` does over the file and the looks that were kept.
   pub record IsStudied (case_old case_new : Reading) (from to : O) (before : Option (List ℕ)) (after : Reading) (out_old out_new : Writing) (status : ℕ)
       : Type 0 where
     pub kept : Option (List Look)
@@ -119,10 +119,10 @@ module _ {O F K S W : Type 0} (opener : Ghosts O F K) (source : SourceGhosts S) 
   OpensFor Done old new =
       IsStopped status ((case_new ≡ case_old) × (out_new ≡ out_old)) (IsAskedForFile opener.does words old new) ⊎ IsOver opener words old new Done
 
-  -- what is done for words that ask a study for nothing
+  -- what is done for words that don't begin with `study`
   abbrev pub CallsRun : (old new : O) → Type 0
   CallsRun = OpensFor MakesRun
 
-  -- what is done for words that ask a study for something
+  -- what is done for words that begin with `study`
   abbrev pub CallsStudy : (old new : O) → Type 0
   CallsStudy = OpensFor MakesStudy

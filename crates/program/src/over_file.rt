@@ -17,7 +17,8 @@ use graph_io::{MemoryKeeper, Sink, Source};
 use std::alloc::Global;
 use study_cli::{run_study, store_path};
 
-/// Runs a study over its commands: over the store that the words name, or over no looks where they name none.
+/// Runs a study over its commands and the store that the words name, or over no looks if they name none. Returns the status,
+/// which is 8 if there is no memory to open the store.
 #[tactic(auto, using(graph_cli::proofs::Taken::untouched))]
 fn run_stored<O: Opener, S: Source, T: Source, W: Sink>(
     alloc: Global,
@@ -51,7 +52,7 @@ fn run_stored<O: Opener, S: Source, T: Source, W: Sink>(
     }
 }
 
-/// Makes the call that the words ask for, over the file that they name.
+/// Makes the call that the words require over the file that they name, and returns its status.
 pub(crate) fn run_over<O: Opener, S: Source, T: Source, W: Sink>(
     alloc: Global,
     words: &[String],

@@ -25,7 +25,7 @@ part_words names (Spend i t) = codes "spend of " ++ name_at names i ++ codes " s
 part_words names (Step i n) = codes "step " ++ counted n ++ codes " of " ++ name_at names i
 part_words names (Arrival n) = codes "arrival " ++ counted n
 
--- What is wrong with a case that is malformed. Hypotheses, components, stages, steps and arrivals are counted from 1. Of other faults it says nothing.
+-- What is wrong with a case that is malformed. Hypotheses, components, stages, steps and arrivals are counted from 1. For other faults it is empty.
 unfoldable pub case_kind : List (List ℕ) → CaseFault → List ℕ
 case_kind names NoHypothesis = codes "no hypothesis"
 case_kind names (NameForm i) = codes "name " ++ counted i
@@ -65,7 +65,7 @@ case_kind names NoMemory = []
 abbrev pub malformed_case : List (List ℕ) → CaseFault → Refusal
 malformed_case names fault = malformed_at (codes "case") (case_kind names fault)
 
--- The line of a fault. To be out of memory is not an error in a draft: no line is given of it.
+-- The line of a fault. Out of memory is not an error in a draft, so no line is claimed for it.
 unfoldable pub case_refusal : List (List ℕ) → CaseFault → Refusal
 case_refusal names (TooMany n) = past_limit (codes "hypotheses " ++ decimal n)
 case_refusal names (TooManyComponents n) = past_limit (codes "components " ++ decimal n)

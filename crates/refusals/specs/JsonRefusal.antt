@@ -11,7 +11,7 @@ use Rattle.refusals.specs.TextRefusal.{number_refusal, expression_refusal}
 abbrev pub syntax_refusal : Refusal
 syntax_refusal = malformed_at (codes "json") (codes "syntax")
 
--- The line of a fault: its path is written as it is, and is empty for the whole value. Out of memory is not a fault of bytes.
+-- The line of a fault. Its path is written as it is, and is empty for the whole value. Out of memory is not a fault of the bytes.
 unfoldable pub json_refusal : JsonFault → Refusal
 json_refusal Syntax = syntax_refusal
 json_refusal (Shape path) = malformed_at path (codes "shape")

@@ -10,6 +10,6 @@ use Rattle.refusals.specs.LinePieces.{past_limit}
 unfoldable pub kind_refusal : Refusal
 kind_refusal = record { cause = Malformed; line = line (codes "malformed: kind") }
 
--- a command takes no case of a number of hypotheses
+-- a command takes no case with this number of hypotheses
 unfoldable pub closure_refusal : ℕ → Refusal
 closure_refusal n = past_limit (codes "closure " ++ decimal n)

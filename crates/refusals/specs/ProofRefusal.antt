@@ -1,4 +1,4 @@
--- Lines of evidence: why it doesn't hold, and why a text says none.
+-- Lines of evidence: why it doesn't hold, and why a text denotes none.
 use Rattle.std.specs.Prelude.{ℕ, ◌+◌, ◌-◌, List, ◌++◌, length, nat_lt, Option, Some, None, if◌then◌else◌, codes}
 use Rattle.std.specs.List.{slice_get}
 use Rattle.std.specs.Fmt.{decimal}
@@ -17,7 +17,7 @@ abbrev pub keep_or : ℕ → Option ℕ → ProofPart
 keep_or n (Some k) = Keep k
 keep_or n None = Step n
 
--- The step or the keep of a number, by the hypotheses of the steps and those of the keeps: the keeps count after the steps.
+-- The step or the keep with this number, by the hypotheses of the steps and those of the keeps. The keeps are numbered after the steps.
 unfoldable pub part_at : List ℕ → List ℕ → ℕ → ProofPart
 part_at js ks n = if nat_lt (length js) n then keep_or n (slice_get ks (n - (length js + 1))) else Step n
 
@@ -31,7 +31,7 @@ abbrev pub name_or_place : List (List ℕ) → ℕ → Option ℕ → List ℕ
 name_or_place names r (Some j) = name_at names j
 name_or_place names r None = counted r
 
--- what a component has of the step at a place: a flow or an exit, and what is wrong with it
+-- the number of a component for the step at a place, a flow or an exit, and what is wrong with it
 abbrev pub number_words : List (List ℕ) → List ℕ → ℕ → List ℕ → ℕ → List ℕ → List ℕ
 number_words names js c quantity r wrong = codes "component " ++ counted c ++ quantity ++ name_or_place names r (slice_get js r) ++ wrong
 

@@ -1,4 +1,4 @@
--- The refusal of a look that is kept and can't be taken.
+-- The refusal of a look of the keeper that can't be taken.
 use Rattle.std.specs.Prelude.{ℕ, ◌++◌, codes}
 use Rattle.std.specs.Fmt.{decimal}
 use Rattle.answers.specs.declared.cause.Cause.TheVariants.{Malformed}

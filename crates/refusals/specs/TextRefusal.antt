@@ -15,14 +15,14 @@ use Rattle.refusals.specs.LinePieces.{malformed_at, limit_at}
 abbrev pub at_line : ℕ → List ℕ
 at_line n = codes "line " ++ decimal n
 
--- a numeral of a place is refused
+-- a numeral at a place is refused
 unfoldable pub number_refusal : List ℕ → NumberFault → Refusal
 number_refusal place Empty = malformed_at place (codes "number")
 number_refusal place (BadByte n) = malformed_at place (codes "number")
 number_refusal place ZeroDenominator = malformed_at place (codes "zero denominator")
 number_refusal place TooManyDigits = limit_at place (codes "digits")
 
--- an expression of a place is refused
+-- an expression at a place is refused
 unfoldable pub expression_refusal : List ℕ → ExprFault → Refusal
 expression_refusal place (expressions.BadByte n) = malformed_at place (codes "expression")
 expression_refusal place DivisorNotNumber = malformed_at place (codes "divisor")
@@ -49,6 +49,6 @@ line_refusal n kind = placed_refusal (at_line n) kind
 abbrev pub at_command : ℕ → List ℕ
 at_command n = codes "commands line " ++ decimal n
 
--- a line of the commands of a study says none
+-- a line of the commands of a study cannot be read
 unfoldable pub commands_refusal : ℕ → LineKind → Refusal
 commands_refusal n kind = placed_refusal (at_command n) kind

@@ -37,7 +37,7 @@ impl fmt::Display for Named<'_, PartPlace> {
     }
 }
 
-/// The fault of a case that is malformed prints as what is wrong, and any other as nothing.
+/// Prints what is wrong with a case that is malformed, and nothing for any other fault.
 impl fmt::Display for Named<'_, CaseFault> {
     ghost output = { λ named. Some (case_kind named.names.0.now named.it) };
 
@@ -112,7 +112,7 @@ fn too_long(alloc: Global, names: &[Text], place: PartPlace) -> Result<Refusal, 
     ))
 }
 
-/// Returns the refusal of a quantity of which there is more than may be.
+/// Returns the refusal of a quantity of which there is more than is allowed.
 #[tactic(auto, unfolding(crate::specs::LinePieces::past_limit))]
 fn too_many(alloc: Global, quantity: &str, n: u64) -> Result<Refusal, NoMemory>
     ensures { IfOk result (λ refusal. refusal ≡ past_limit (quantity.now ++ codes " " ++ decimal n)) }
@@ -120,7 +120,7 @@ fn too_many(alloc: Global, quantity: &str, n: u64) -> Result<Refusal, NoMemory>
     Ok(refusal(Cause::Limit, format!(in alloc; "limit: {quantity} {n}\n")?))
 }
 
-/// Returns the refusal of a fault of a case with these names; `NoMemory` if the fault is, or when out of memory.
+/// Returns the refusal for an error in a case with these names; `NoMemory` if the fault is that, or when out of memory.
 #[tactic(auto, unfolding(crate::specs::CaseRefusal::case_refusal))]
 pub fn case_refusal(alloc: Global, names: &[Text], fault: &CaseFault) -> Result<Refusal, NoMemory>
     ensures line { IfOk result (λ refusal. refusal ≡ case_refusal names.now fault.now) }

@@ -10,14 +10,14 @@ use case_json::JsonFault;
 use field_core::{NoMemory, Text};
 use std::alloc::Global;
 
-/// Returns a path as UTF-8, as each path of JSON is. There is no line of another: it is `NoMemory`.
+/// Returns a path as UTF-8, as each path of JSON is. Any other path gives `NoMemory`, since no line can have it.
 fn path_text(path: &Text) -> Result<&str, NoMemory>
     ensures { IfOk result (λ text. text.now ≡ path.now) }
 {
     str::from_utf8(path.as_bytes()).map_err(|_| NoMemory)
 }
 
-/// Returns the refusal of JSON with this fault, by its path as it is; `NoMemory` if the fault is, or when out of memory.
+/// Returns the refusal of JSON with this fault, with its path as it is; `NoMemory` if the fault is that, or when out of memory.
 #[tactic(auto, unfolding(crate::specs::JsonRefusal::json_refusal))]
 pub fn json_refusal(alloc: Global, fault: &JsonFault) -> Result<Refusal, NoMemory>
     ensures line { IfOk result (λ refusal. refusal ≡ json_refusal fault.now) }

@@ -1,6 +1,6 @@
 //! The lines of refusals.
 //!
-//! Proved: each line of a refusal, as a function of its cause. A line is UTF-8: a name or a path that isn't gives
+//! Proved: each line of a refusal, as a function of its cause. Since a line is UTF-8, a name or a path that isn't UTF-8 gives
 //! `NoMemory`. A fault that names hypotheses comes after all names are found well formed, so they are ASCII.
 #![tactic(auto)]
 

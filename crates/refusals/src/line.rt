@@ -1,4 +1,4 @@
-//! Lines, and the words in them that several lines have.
+//! Lines, and the words that several lines have.
 ghost use Rattle.std.specs.Prelude.{◌≡◌, Some, string_bytes};
 ghost use Rattle.refusals.specs.LinePieces.{counted, name_at};
 
@@ -48,7 +48,7 @@ impl fmt::Display for Shown<'_> {
 pub struct Names<'a>(pub &'a [Text]);
 
 impl<'a> Names<'a> {
-    /// Returns a hypothesis, or what names hypotheses, with the names.
+    /// Returns a hypothesis, or a value that names hypotheses, with the names.
     pub fn of<T: Copy>(&self, it: T) -> Named<'a, T>
         ensures { result ≡ record { names = self.now; it = it } }
     {
@@ -56,14 +56,14 @@ impl<'a> Names<'a> {
     }
 }
 
-/// A hypothesis by its position, or what names hypotheses, with the names of the case.
+/// A hypothesis by its position, or a value that names hypotheses, with the names of the case.
 #[derive(Clone, Copy)]
 pub struct Named<'a, T> {
     pub names: Names<'a>,
     pub it: T,
 }
 
-/// A hypothesis prints as its name; past the last name as its place, counted from 1.
+/// Prints a hypothesis as its name; past the last name as its place, counted from 1.
 impl fmt::Display for Named<'_, usize> {
     ghost output = { λ named. Some (name_at named.names.0.now named.it) };
 

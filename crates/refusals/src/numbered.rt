@@ -10,7 +10,7 @@ use answers::{Cause, Refusal};
 use field_core::NoMemory;
 use std::alloc::Global;
 
-/// Returns the refusal of words of which this one, from 1, is the first that isn't allowed.
+/// Returns the refusal of the words of a call; `word` is the number, from 1, of the first that isn't allowed.
 #[tactic(auto, unfolding(crate::specs::UsageRefusal::usage))]
 pub fn usage(alloc: Global, word: usize) -> Result<Refusal, NoMemory>
     ensures { IfOk result (λ refusal. refusal ≡ usage word) }
@@ -50,7 +50,7 @@ pub fn seed_refusal(alloc: Global, n: u64) -> Result<Refusal, NoMemory>
     Ok(refusal(Cause::Limit, format!(in alloc; "limit: seed {n}\n")?))
 }
 
-/// Returns the refusal of a look that is kept, by its number from 1, and can't be taken.
+/// Returns the refusal of a look of the keeper, by its number from 1, that can't be taken.
 #[tactic(auto, unfolding(crate::specs::RecordRefusal::record_refusal))]
 pub fn record_refusal(alloc: Global, n: usize) -> Result<Refusal, NoMemory>
     ensures { IfOk result (λ refusal. refusal ≡ record_refusal n) }

@@ -1,4 +1,4 @@
-//! Lines of evidence: why it doesn't hold, and why a text says none.
+//! Lines of evidence: why it doesn't hold, and why a text denotes none.
 ghost use Rattle.std.specs.Prelude.{◌≡◌, Some, IfOk, length, map};
 ghost use Rattle.std.specs.List.{slice_get};
 ghost use Rattle.evidence_check.specs.EvidenceView.{hypotheses_of, steps_of, keeps_of};
@@ -63,8 +63,8 @@ fn keep_at(proof: &Evidence, x: usize) -> Option<usize>
     }
 }
 
-/// Returns the step or the keep of a number, from 1; the keeps count after the steps. Past the last keep it is the step
-/// of the number.
+/// Returns the step or the keep with this number, from 1, where the keeps are numbered after the steps. Past the last keep it is
+/// the step with the number.
 #[tactic(auto, unfolding(crate::specs::ProofRefusal::part_at))]
 pub fn part_at(proof: &Evidence, n: usize) -> ProofPart
     ensures { result ≡ part_at (map (λ s. s.hypothesis) (steps_of proof.now)) (map (λ x. x.hypothesis) (keeps_of proof.now)) n }
@@ -92,7 +92,7 @@ impl fmt::Display for Named<'_, ProofPart> {
     }
 }
 
-/// The step at a place of evidence. It prints as its hypothesis; past the last step as its place, counted from 1.
+/// The step at a place of evidence, which prints as its hypothesis; past the last step it prints as its place, counted from 1.
 #[derive(Clone, Copy)]
 struct StepAt<'a> {
     names: Names<'a>,
@@ -152,7 +152,7 @@ impl fmt::Display for Broken<'_> {
     }
 }
 
-/// Returns the line of evidence that doesn't hold: its first broken condition, at the step or keep of a number, from 1.
+/// Returns the line of evidence that doesn't hold: its first broken condition, at the step or keep with this number, from 1.
 #[tactic(auto, unfolding(crate::specs::ProofRefusal::no_line))]
 pub fn no_text(
     alloc: Global,

@@ -16,7 +16,7 @@ use field_core::NoMemory;
 use fraction::NumberFault;
 use std::alloc::Global;
 
-/// Returns the refusal of what is malformed at a place.
+/// Returns the refusal of a malformed input: where, and what is wrong there.
 #[tactic(auto, unfolding(crate::specs::LinePieces::malformed_at))]
 pub fn malformed_at(alloc: Global, place: &str, kind: &str) -> Result<Refusal, NoMemory>
     ensures { IfOk result (λ refusal. refusal ≡ malformed_at place.now kind.now) }
@@ -90,7 +90,7 @@ pub fn line_refusal(alloc: Global, line: usize, kind: LineKind) -> Result<Refusa
     placed_refusal(alloc, &place, kind)
 }
 
-/// Returns the refusal of a line of the commands of a study, by its number from 1, that says none.
+/// Returns the refusal of a line of the commands of a study that cannot be read; `line` counts from 1.
 #[tactic(auto, unfolding(crate::specs::TextRefusal::commands_refusal))]
 pub fn commands_refusal(alloc: Global, line: usize, kind: LineKind) -> Result<Refusal, NoMemory>
     ensures { IfOk result (λ refusal. refusal ≡ commands_refusal line kind) }

@@ -10,10 +10,14 @@ use field_core::{NoMemory, Op, Place, Text, WideAt};
 use std::alloc::Global;
 use std::fmt;
 
-/// When an operation is written. A sum of the case; a step of the decision, of the run of adjusted values, or of the flow run.
-/// The run of a set of hypotheses, or Simes' test of a set. The opening of a study, the settling after an arrival, or that
-/// after a kept look. The check of evidence. Steps and looks count from 1, and 0 is the opening; arrivals count from 1. Bit `k`
-/// of the number of a set says whether hypothesis `k` is a member.
+/// When an operation is written:
+/// - in a sum of the case (`Reading`);
+/// - in a step of the decision, of the run of adjusted values, or of the flow run;
+/// - in the run of a set of hypotheses, or in Simes' test of a set, whose bit `k` is 1 if the hypothesis `k` is a member;
+/// - in the opening of a study, in the settling after an arrival, or in that after a look of the keeper;
+/// - in the check of evidence.
+///
+/// Steps and looks count from 1, and 0 is the opening; arrivals count from 1.
 #[derive(Clone, Copy, PartialEq, Eq, Debug)]
 pub enum When {
     Reading,
@@ -36,7 +40,7 @@ fn is_member(set: u32, k: usize) -> bool
     k < 32 && (set >> k) & 1 == 1
 }
 
-/// The members of a set, with the names of the case. Each prints as a space and its name.
+/// The members of a set, with the names of the case. Each member prints as a space and its name.
 #[derive(Clone, Copy)]
 struct Members<'a> {
     names: Names<'a>,

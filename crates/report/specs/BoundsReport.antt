@@ -12,7 +12,7 @@ use Rattle.report.specs.TestReport.{names_where}
 unfoldable pub members_line : Content → (ℕ → ℕ) → ℕ → List ℕ
 members_line case bound n = line (codes "bound " ++ decimal (bound n) ++ codes " of" ++ names_where case (members n))
 
--- the line of a set; nothing for the empty one
+-- the line of a set, and nothing for the empty set
 abbrev pub bound_line : Content → (ℕ → ℕ) → ℕ → List ℕ
 bound_line case bound n = if n == 0 then [] else members_line case bound n
 

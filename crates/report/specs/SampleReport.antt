@@ -12,7 +12,7 @@ use Rattle.case_model.specs.Sums.{ratio_at}
 use Rattle.sequential.specs.declared.decision.Decision.{Decision}
 use Rattle.report.specs.TestReport.{rejected_line}
 
--- an entry has a coefficient of a power from 0 to 4 that isn't 0
+-- whether an entry has a coefficient of a power from 0 to 4 that isn't 0
 unfoldable pub is_edge : List Ratio → Bool
 is_edge e = list_any (λ k. not (is_zero (terms (ratio_at e k)))) (range_with_len 0 5)
 
@@ -24,7 +24,7 @@ edges_in k = count_by is_edge k.edges
 unfoldable pub edge_count : Content → ℕ
 edge_count case = sum_by edges_in case.components
 
--- the size and the seed, the numbers of edges and of steps, the names of the rejected, and the last line
+-- the size and the seed, the numbers of edges and of steps, the names of the rejected hypotheses, and the last line
 unfoldable pub sample_report : Content → ℕ → Decision → List ℕ
 sample_report case seed decision =
     line (codes "sample " ++ decimal (length case.names) ++ codes " " ++ decimal seed) ++ line (codes "edges " ++ decimal (edge_count case)) ++ line

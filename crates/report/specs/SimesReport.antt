@@ -1,4 +1,4 @@
--- What the command `simes` prints of a case, the bounds of its sets, what a closed test says of them, and its hypotheses by ascending p-value.
+-- What the command `simes` prints of a case, the bounds of its sets, which of them a closed test rejects, and its hypotheses by ascending p-value.
 use Rattle.std.specs.Prelude.{◌≡◌, ℕ, ◌+◌, Bool, List, ◌++◌, length, take, codes}
 use Rattle.std.specs.Fmt.{decimal}
 use Rattle.std.specs.List.{flat_map, range_with_len}
@@ -19,7 +19,7 @@ first_set case js k = set_number (length case.names) (set_of (take k js))
 unfoldable pub top_line : Content → (ℕ → ℕ) → List ℕ → ℕ → List ℕ
 top_line case bound js k = line (codes "top " ++ decimal k ++ codes " bound " ++ decimal (bound (first_set case js k)))
 
--- the lines of the first one, of the first two, and so on to all on a list
+-- the lines of the first one on a list, of the first two, and so on to all
 abbrev pub top_lines : Content → (ℕ → ℕ) → List ℕ → List ℕ
 top_lines case bound js = flat_map (λ k. top_line case bound js (k + 1)) (range_with_len 0 (length js))
 
@@ -31,7 +31,7 @@ set_alone case j = set_number (length case.names) (only j)
 unfoldable pub alone_line : Content → (ℕ → Bool) → List ℕ
 alone_line case closed = line (codes "rejected" ++ names_where case (λ j. closed (set_alone case j)))
 
--- the number of hypotheses, the lines of sets, those of the leaders, the names of the rejected, and the last line
+-- the number of hypotheses, the lines of sets, those of the leaders, the names of the hypotheses that are rejected alone, and the last line
 unfoldable pub simes_report : Content → (ℕ → ℕ) → (ℕ → Bool) → List ℕ → List ℕ → List ℕ
 simes_report case bound closed leaders sets =
     line (codes "simes " ++ decimal (length case.names)) ++ flat_map (bound_line case bound) sets

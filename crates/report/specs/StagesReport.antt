@@ -34,14 +34,14 @@ looks_lines case [] looks = []
 looks_lines case (a ∷ more) [] = []
 looks_lines case (a ∷ more) (look ∷ looks) = look_lines case a look ++ looks_lines case more looks
 
--- the hypothesis at a position is rejected in some look
+-- whether the hypothesis at a position is rejected in some look
 unfoldable pub is_settled : List (List Settled) → ℕ → Bool
 is_settled looks j = list_any (λ look. list_any (λ r. r.hypothesis == j) look) looks
 
--- the line of the names of the hypotheses that are rejected, by ascending position
+-- the line of the names of the rejected hypotheses, by ascending position
 unfoldable pub settled_line : Content → List (List Settled) → List ℕ
 settled_line case looks = line (codes "rejected" ++ names_where case (is_settled looks))
 
--- the level, the arrivals with the rejections that they bring, the names of the hypotheses that are rejected, and the last line
+-- the level, the arrivals with the rejections that they bring, the names of the rejected hypotheses, and the last line
 unfoldable pub stages_report : Content → List (List Settled) → List ℕ
 stages_report case looks = alpha_line case ++ looks_lines case (arrivals_of case.inputs) looks ++ settled_line case looks ++ line (codes "end")

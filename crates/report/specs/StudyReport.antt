@@ -19,18 +19,18 @@ pub data Reply : Type 0 where
   taken : (look : Look) (rejections : List Settled) → Reply
   -- the command of this number, from 1, requested a look that is refused
   refused : (number : ℕ) (fault : StepFault) → Reply
-  -- this number of looks has arrived, and these are rejected
+  -- this number of looks has arrived, and these hypotheses are rejected
   shown : (looks : ℕ) (rejections : List Settled) → Reply
 
 -- the line of a look: the hypothesis, the stage and the p-value
 unfoldable pub look_line : Content → Look → List ℕ
 look_line case l = line (codes "look" ++ spaced_name case l.hypothesis ++ codes " " ++ decimal l.stage ++ codes " " ++ spelling (terms l.p))
 
--- a look, and the rejections that it brings
+-- the lines of a look, and of the rejections that it brings
 unfoldable pub taken_lines : Content → Look → List Settled → List ℕ
 taken_lines case l rejections = look_line case l ++ flat_map (reject_line case) rejections
 
--- why an arrival is refused; nothing if something else is
+-- the word for why an arrival is refused, and an empty one if the fault isn't that of an arrival
 abbrev pub refusal_word : StepFault → List ℕ
 refusal_word (StageRange t) = codes "stage"
 refusal_word (Known i t) = codes "known"
@@ -43,11 +43,11 @@ refusal_word (Wide w) = []
 unfoldable pub refused_line : ℕ → StepFault → List ℕ
 refused_line number fault = line (codes "refused " ++ decimal number ++ codes ": " ++ refusal_word fault)
 
--- the hypothesis at a position is one of those that are rejected
+-- whether the hypothesis at a position is one of the rejected ones
 unfoldable pub is_among : List Settled → ℕ → Bool
 is_among rejections j = list_any (λ r. r.hypothesis == j) rejections
 
--- the line of the number of looks and of the names of the hypotheses that are rejected
+-- the line of the number of looks and of the names of the rejected hypotheses
 unfoldable pub shown_line : Content → ℕ → List Settled → List ℕ
 shown_line case looks rejections = line (codes "show looks " ++ decimal looks ++ codes " rejected" ++ names_where case (is_among rejections))
 
@@ -57,10 +57,10 @@ reply_lines case (taken l rejections) = taken_lines case l rejections
 reply_lines case (refused number fault) = refused_line number fault
 reply_lines case (shown looks rejections) = shown_line case looks rejections
 
--- the level, and the number of looks that were kept before
+-- the lines of the level and of the number of looks that the keeper had before
 unfoldable pub opened_lines : Content → ℕ → List ℕ
 opened_lines case records = alpha_line case ++ line (codes "records " ++ decimal records)
 
--- the level, the number of looks that were kept before, the replies in their order, and the last line
+-- the level, the number of looks that the keeper had before, the replies in their order, and the last line
 unfoldable pub study_report : Content → ℕ → List Reply → List ℕ
 study_report case records replies = opened_lines case records ++ flat_map (reply_lines case) replies ++ line (codes "end")

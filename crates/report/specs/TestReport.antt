@@ -18,7 +18,7 @@ use Rattle.adjusted_p.specs.declared.adjusted.Adjusted.{Adjusted}
 abbrev pub AreOfCase : Content → List StepLine → Type 0
 AreOfCase case lines = All (λ x. x.hypothesis < length case.names) lines
 
--- the p-values, and nothing if there are no single ones
+-- the p-values, and the empty list if there are no single ones
 abbrev pub p_values : Inputs → List Ratio
 p_values (Single ps) = ps
 p_values Bare = []
@@ -28,11 +28,11 @@ p_values (Staged stages) = []
 abbrev pub spaced_name : Content → ℕ → List ℕ
 spaced_name case j = 32 ∷ get_or case.names j []
 
--- a space and the name of the hypothesis at a position, or nothing
+-- a space and the name of the hypothesis at a position if `is_put` is true, and else nothing
 abbrev pub name_if : Content → ℕ → Bool → List ℕ
 name_if case j is_put = if is_put then spaced_name case j else []
 
--- the names of the hypotheses of which a test holds, by ascending position
+-- the names of the hypotheses for which a test is true, by ascending position
 abbrev pub names_where : Content → (ℕ → Bool) → List ℕ
 names_where case test = flat_map (λ j. name_if case j (test j)) (range_with_len 0 (length case.names))
 
@@ -54,19 +54,19 @@ abbrev pub step_lines : Content → ℕ → List StepLine → List ℕ
 step_lines case n [] = []
 step_lines case n (x ∷ xs) = step_line case n x ++ step_lines case (n + 1) xs
 
--- the line of a hypothesis that is kept
+-- the line of a retained hypothesis
 unfoldable pub kept_line : Content → StepLine → List ℕ
 kept_line case x = line (codes "kept" ++ figures case x)
 
--- the hypothesis at a position is that of a step
+-- whether the hypothesis at a position is that of a step
 unfoldable pub is_rejected : List StepLine → ℕ → Bool
 is_rejected steps j = list_any (λ x. x.hypothesis == j) steps
 
--- the line of the names of the hypotheses that are rejected, by ascending position
+-- the line of the names of the rejected hypotheses, by ascending position
 unfoldable pub rejected_line : Content → List StepLine → List ℕ
 rejected_line case steps = line (codes "rejected" ++ names_where case (is_rejected steps))
 
--- what is printed after a value: nothing if it is reached
+-- what is printed after a value: nothing if the value is reached
 abbrev pub reached_words : Bool → List ℕ
 reached_words reached = if reached then [] else codes " not reached"
 
@@ -79,7 +79,7 @@ abbrev pub adjusted_lines : Content → ℕ → List Adjusted → List ℕ
 adjusted_lines case j [] = []
 adjusted_lines case j (x ∷ xs) = adjusted_line case j x ++ adjusted_lines case (j + 1) xs
 
--- the level, the steps, the hypotheses that are kept, the names of those that are rejected, the adjusted values, and the last line
+-- the level, the steps, the retained hypotheses, the names of the rejected ones, the adjusted values, and the last line
 unfoldable pub test_report : Content → Decision → List Adjusted → List ℕ
 test_report case decision adjusted =
     alpha_line case ++ step_lines case 1 decision.steps ++ flat_map (kept_line case) decision.kept

@@ -15,7 +15,7 @@ use Rattle.report.specs.TestReport.{spaced_name}
 unfoldable pub member_weight : Content → (ℕ → ℕ → Ratio) → ℕ → ℕ → List ℕ
 member_weight case weight n k = spaced_name case k ++ codes "=" ++ spelling (terms (weight n k))
 
--- the same of a hypothesis that is a member, and nothing of another one
+-- a space, the name and the weight of a hypothesis that is a member of a set, and nothing for another one
 abbrev pub weight_if_member : Content → (ℕ → ℕ → Ratio) → ℕ → ℕ → List ℕ
 weight_if_member case weight n k = if members n k then member_weight case weight n k else []
 
@@ -23,7 +23,7 @@ weight_if_member case weight n k = if members n k then member_weight case weight
 unfoldable pub members_line : Content → (ℕ → ℕ → Ratio) → ℕ → List ℕ
 members_line case weight n = line (codes "set" ++ flat_map (weight_if_member case weight n) (range_with_len 0 (length case.names)))
 
--- the line of a set; nothing for the empty one
+-- the line of a set, and nothing for the empty set
 abbrev pub set_line : Content → (ℕ → ℕ → Ratio) → ℕ → List ℕ
 set_line case weight n = if n == 0 then [] else members_line case weight n
 

@@ -36,7 +36,7 @@ fn put_line(text: &mut List<u8>, case: &Case, bounds: &Bounds, set: u32) -> Resu
     text.push(b'\n')
 }
 
-/// Appends the line of a set; nothing for the empty one.
+/// Appends the line of a set, and nothing for the empty set.
 fn put_set(text: &mut List<u8>, case: &Case, bounds: &Bounds, set: u32) -> Result<(), NoMemory>
     requires size { bounds_size bounds.now ≡ length (content case.now).names }
     requires set { set < 2 ^ bounds_size bounds.now }
@@ -84,9 +84,8 @@ fn text_of_sets(
     Ok(text)
 }
 
-/// Returns what the command `bounds` prints. It has the number of hypotheses, and for each set that isn't empty, in the order
-/// of sets, its bound and the names of its members. The bounds must be for the hypotheses of the case. `NoMemory` when out of
-/// memory.
+/// Returns what the command `bounds` prints, or `NoMemory`. It is the number of hypotheses, and then for each set that isn't
+/// empty, in the order of sets, its bound and its members' names. The bounds must be for the hypotheses of the case.
 pub fn bounds_text(alloc: Global, case: &Case, bounds: &Bounds) -> Result<List<u8>, NoMemory>
     requires { bounds_size bounds.now ≡ length (content case.now).names }
     ensures { IfOk result (λ text. IsBoundsReport (content case.now) (bound_of bounds.now) text) }

@@ -27,7 +27,7 @@ fn put_step_names<F>(
     Ok(())
 }
 
-/// Appends the names of the hypotheses that are kept.
+/// Appends the names of the hypotheses of keeps.
 fn put_keep_names<F>(
     text: &mut List<u8>,
     case: &Case,
@@ -53,7 +53,7 @@ fn put_listed<F>(text: &mut List<u8>, case: &Case, steps: &[ProofStep<F>]) -> Re
     text.push(b'\n')
 }
 
-/// Appends the line of the hypotheses that are kept, if the version has it.
+/// Appends the line of the hypotheses of the keeps, if the version has this line.
 #[tactic(auto, unfolding(crate::specs::CheckReport::keeps_line))]
 fn put_keeps<F>(
     text: &mut List<u8>,
@@ -72,7 +72,7 @@ fn put_keeps<F>(
     text.push(b'\n')
 }
 
-/// Appends the hypotheses of evidence: those of the steps, and those that are kept.
+/// Appends the hypotheses of evidence: those of the steps, and those of the keeps.
 fn put_hypotheses<F>(text: &mut List<u8>, case: &Case, proof: &Steps<F>) -> Result<(), NoMemory>
     requires steps { All (λ s. s.hypothesis < length (content case.now).names) proof.now.steps }
     requires keeps { All (λ x. x.hypothesis < length (content case.now).names) proof.now.keeps }
@@ -97,10 +97,10 @@ fn put_evidence(text: &mut List<u8>, case: &Case, proof: &Evidence) -> Result<()
     }
 }
 
-/// Returns what the command `check` prints of evidence that holds. It has `yes`, the names of the hypotheses of the steps in
-/// their order, and in version 2 the names of those that are kept.
+/// Returns what the command `check` prints of evidence that holds, or `NoMemory`. It is `yes`, the names of the hypotheses of the
+/// steps in their order, and in version 2 those of the keeps.
 ///
-/// The evidence must be for the case. `NoMemory` when out of memory.
+/// The evidence must be for the case.
 #[tactic(auto, unfolding(crate::specs::CheckReport::check_report))]
 pub fn check_text(alloc: Global, case: &Case, proof: &Evidence) -> Result<List<u8>, NoMemory>
     requires { IsEvidenceFor (content case.now) proof.now }

@@ -2,12 +2,13 @@
 
 ghost use Rattle.report.specs.ReportStatements.{DecisionsAreOfTheirCases, LooksAreOfTheirCases};
 
-/// Each line of the decision on a case is of a hypothesis of the case, as `test_text` asks.
+/// Each line of the decision on a case is of a hypothesis of the case, as `test_text` requires.
 pub fn decisions_are_of_their_cases()
     ensures { DecisionsAreOfTheirCases }
 {}
 
-/// There is a look for each arrival of a case, and each rejection in a look is of a hypothesis of the case, as `stages_text` asks.
+/// There is a look for each arrival of a case, and each rejection in a look is of a hypothesis of the case, as `stages_text`
+/// requires.
 pub fn looks_are_of_their_cases()
     ensures { LooksAreOfTheirCases }
 {}

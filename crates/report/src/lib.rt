@@ -1,11 +1,14 @@
 //! What the commands print.
 //!
-//! Proved: `test_text`, `stages_text`, `sample_text` and `check_text`. They give exactly the text of a decision on a case with
-//! its adjusted values (`test_report`), of looks (`stages_report`), of a sample (`sample_report`) and of evidence that holds
-//! (`check_report`). `weights_text`, `bounds_text` and `simes_text` give that of all sets in their order (`weights_report`,
-//! `bounds_report`, `simes_report`). By the laws, each line of a decision, and each rejection of a look, is of a hypothesis of
-//! its case. `opened_text`, `put_taken`, `put_refused` and `put_shown` put the pieces of what `study` prints (`study_report`),
-//! one after another. When out of memory, a beginning of the piece is in the text (`begun`).
+//! Proved:
+//! - `test_text` returns exactly the text of a decision on a case with its adjusted values (`test_report`), `stages_text` that of
+//!   looks (`stages_report`), and `sample_text` that of a sample (`sample_report`).
+//! - `check_text` returns exactly the text of evidence that holds (`check_report`).
+//! - `weights_text`, `bounds_text` and `simes_text` return exactly the text of all sets in their order (`weights_report`,
+//!   `bounds_report`, `simes_report`).
+//! - `opened_text` returns the first piece of what `study` prints (`study_report`), and `put_taken`, `put_refused` and `put_shown`
+//!   append the others, one after another. When out of memory, a beginning of the piece may have been appended (`begun`).
+//! - Laws in `src/laws.rt`: each line of a decision, and each rejection of a look, is of a hypothesis of its case.
 #![tactic(auto)]
 
 mod bounds;

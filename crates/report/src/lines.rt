@@ -31,7 +31,7 @@ pub(crate) fn put_name(text: &mut List<u8>, case: &Case, j: usize) -> Result<(),
     text.append(case.name(j))
 }
 
-/// Appends a space and the name of the hypothesis at a position, or nothing.
+/// Appends a space and the name of the hypothesis at a position if `is_put`, and else nothing.
 fn put_name_if(text: &mut List<u8>, case: &Case, j: usize, is_put: bool) -> Result<(), NoMemory>
     requires { j < length (content case.now).names }
     ensures put { OnOk result (text.new ≡ text.old ++ name_if (content case.now) j is_put) }
@@ -43,7 +43,7 @@ fn put_name_if(text: &mut List<u8>, case: &Case, j: usize, is_put: bool) -> Resu
     put_name(text, case, j)
 }
 
-/// Appends a space and the name of each hypothesis for which the test says yes, by ascending position. When out of memory, a
+/// Appends a space and the name of each hypothesis for which `test` is true, by ascending position. When out of memory, a
 /// beginning of this may have been appended.
 pub(crate) fn put_names<T: Fn(usize) -> bool>(
     text: &mut List<u8>,
@@ -62,7 +62,7 @@ pub(crate) fn put_names<T: Fn(usize) -> bool>(
     Ok(())
 }
 
-/// Appends the level.
+/// Appends the line of the level.
 #[tactic(auto, unfolding(crate::specs::TestReport::alpha_line))]
 pub(crate) fn put_alpha(text: &mut List<u8>, case: &Case) -> Result<(), NoMemory>
     ensures { OnOk result (text.new ≡ text.old ++ alpha_line (content case.now)) }
@@ -79,7 +79,7 @@ fn is_rejected(steps: &[StepLine], j: usize) -> bool
     steps.iter().any(|step| step.hypothesis == j)
 }
 
-/// Appends the line of the hypotheses that are rejected.
+/// Appends the line of the rejected hypotheses.
 #[tactic(auto, unfolding(crate::specs::TestReport::rejected_line))]
 pub(crate) fn put_rejected(
     text: &mut List<u8>,

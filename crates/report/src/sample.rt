@@ -50,8 +50,8 @@ fn put_head(text: &mut List<u8>, size: usize, seed: u64) -> Result<(), NoMemory>
     text.push(b'\n')
 }
 
-/// Returns what the command `sample` prints: the size and the seed, how many edges and steps there are, and the names
-/// of the hypotheses that are rejected. `NoMemory` when out of memory.
+/// Returns what the command `sample` prints, or `NoMemory`: the size and the seed, how many edges and steps there are, and the
+/// names of the rejected hypotheses.
 #[tactic(auto, unfolding(crate::specs::SampleReport::sample_report))]
 pub fn sample_text(
     alloc: Global,

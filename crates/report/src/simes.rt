@@ -17,7 +17,7 @@ use discovery_bound::Bounds;
 use field_core::{List, NoMemory};
 use std::alloc::Global;
 
-/// Appends the line of the bound of the set of the first leaders, of which there are `count`.
+/// Appends the line of the bound of the set of the first `count` leaders.
 fn put_top(text: &mut List<u8>, bounds: &Bounds, count: usize, set: u32) -> Result<(), NoMemory>
     requires { set < 2 ^ bounds_size bounds.now }
     ensures { OnOk result (text.new ≡ text.old
@@ -58,7 +58,7 @@ fn alone(j: usize) -> u32
     1 << j
 }
 
-/// Whether the set of a hypothesis alone is rejected.
+/// Whether the set whose only member is `j` is rejected.
 fn is_rejected(case: &Case, closed: &SetTable, j: usize) -> bool
     requires size { table_size closed.now ≡ length (content case.now).names }
     requires below { j < length (content case.now).names }
@@ -114,12 +114,13 @@ fn text_of_sets(
     Ok(text)
 }
 
-/// Returns what the command `simes` prints. It has the number of hypotheses, and for each set that isn't empty, in the order of
-/// sets, its bound and the names of its members. For each number of leaders, from 1 on, it has the bound of the set of these
-/// leaders. Last it has the names of the hypotheses whose set alone is rejected.
+/// Returns what the command `simes` prints, or `NoMemory`:
+/// - the number of hypotheses;
+/// - for each set that isn't empty, in the order of sets, its bound and the names of its members;
+/// - for each number of leaders, from 1 on, the bound of the set of these leaders;
+/// - the names of the hypotheses that are rejected alone.
 ///
 /// The bounds and the answers must be for the hypotheses of the case, and each leader must be one of these, none twice.
-/// `NoMemory` when out of memory.
 pub fn simes_text(
     alloc: Global,
     case: &Case,

@@ -21,7 +21,7 @@ use field_core::{List, NoMemory};
 use staged_levels::Settled;
 use std::alloc::Global;
 
-/// Returns the arrivals of a case, each of which is of a hypothesis of it.
+/// Returns the arrivals of a case, each of which is of a hypothesis of the case.
 fn arrivals_of(case: &Case) -> &[Arrival]
     requires { IsStaged (content case.now).inputs }
     ensures arrivals { result.now ≡ arrivals_of (content case.now).inputs }
@@ -33,7 +33,7 @@ fn arrivals_of(case: &Case) -> &[Arrival]
     }
 }
 
-/// Appends an arrival.
+/// Appends the line of an arrival.
 #[tactic(auto, unfolding(crate::specs::StagesReport::arrive_line))]
 fn put_arrival(text: &mut List<u8>, case: &Case, arrival: &Arrival) -> Result<(), NoMemory>
     requires { arrival.now.hypothesis < length (content case.now).names }
@@ -48,7 +48,7 @@ fn put_arrival(text: &mut List<u8>, case: &Case, arrival: &Arrival) -> Result<()
     text.push(b'\n')
 }
 
-/// Appends a rejection.
+/// Appends the line of a rejection.
 #[tactic(auto, unfolding(crate::specs::StagesReport::reject_line))]
 fn put_rejection(text: &mut List<u8>, case: &Case, rejection: &Settled) -> Result<(), NoMemory>
     requires { rejection.now.hypothesis < length (content case.now).names }
@@ -64,7 +64,7 @@ fn put_rejection(text: &mut List<u8>, case: &Case, rejection: &Settled) -> Resul
     text.push(b'\n')
 }
 
-/// Appends the rejections of a look.
+/// Appends the lines of the rejections of a look.
 pub(crate) fn put_rejections(
     text: &mut List<u8>,
     case: &Case,
@@ -80,7 +80,7 @@ pub(crate) fn put_rejections(
     Ok(())
 }
 
-/// Appends an arrival and the rejections that it brings.
+/// Appends the lines of an arrival and of the rejections that it brings.
 #[tactic(auto, unfolding(crate::specs::StagesReport::look_lines))]
 fn put_look(
     text: &mut List<u8>,
@@ -96,7 +96,7 @@ fn put_look(
     put_rejections(text, case, look)
 }
 
-/// Appends the arrivals in their order, each with the rejections that it brings.
+/// Appends the lines of the arrivals in their order, each with those of the rejections that it brings.
 fn put_looks(
     text: &mut List<u8>,
     case: &Case,
@@ -128,7 +128,7 @@ fn is_settled(looks: &[List<Settled>], j: usize) -> bool
     looks.iter().any(|look| is_among(look.as_slice(), j))
 }
 
-/// Appends the line of the hypotheses that are rejected.
+/// Appends the line of the rejected hypotheses.
 #[tactic(auto, unfolding(crate::specs::StagesReport::settled_line))]
 fn put_settled(text: &mut List<u8>, case: &Case, looks: &[List<Settled>]) -> Result<(), NoMemory>
     ensures { OnOk result (text.new ≡ text.old ++ settled_line (content case.now) looks.now) }
@@ -138,11 +138,11 @@ fn put_settled(text: &mut List<u8>, case: &Case, looks: &[List<Settled>]) -> Res
     text.push(b'\n')
 }
 
-/// Returns what the command `stages` prints: the level, the arrivals of the case, each with the rejections that it
-/// brings, and the names of the hypotheses that are rejected.
+/// Returns what the command `stages` prints, or `NoMemory`: the level, the arrivals of the case, each with the rejections that it
+/// brings, and the names of the rejected hypotheses.
 ///
 /// The case must have stages, there must be a look for each arrival, and each rejection must be of a hypothesis of the
-/// case. `NoMemory` when out of memory.
+/// case.
 #[tactic(auto, unfolding(crate::specs::StagesReport::stages_report))]
 pub fn stages_text(
     alloc: Global,

@@ -23,7 +23,7 @@ use graph_io::Look;
 use staged_levels::{Settled, StepFault};
 use std::alloc::Global;
 
-/// Appends a look.
+/// Appends the line of a look.
 #[tactic(auto, unfolding(crate::specs::StudyReport::look_line))]
 fn put_look(text: &mut List<u8>, case: &Case, look: &Look) -> Result<(), NoMemory>
     requires { look.now.hypothesis < length (content case.now).names }
@@ -39,8 +39,8 @@ fn put_look(text: &mut List<u8>, case: &Case, look: &Look) -> Result<(), NoMemor
     text.push(b'\n')
 }
 
-/// Appends a look that was taken, and the rejections that it brings. `NoMemory` when out of memory; a beginning of the
-/// lines may then have been appended.
+/// Appends the lines of a look that was taken, and of the rejections that it brings. When out of memory, a beginning of the lines
+/// may have been appended.
 #[tactic(auto, unfolding(crate::specs::StudyReport::taken_lines))]
 pub fn put_taken(
     text: &mut List<u8>,
@@ -57,7 +57,7 @@ pub fn put_taken(
     put_rejections(text, case, rejections)
 }
 
-/// Returns why an arrival is refused; nothing if something else is.
+/// Returns the word for why an arrival is refused, and an empty one if the fault isn't that of an arrival.
 fn refusal_word(fault: &StepFault) -> &'static [u8]
     ensures { result.now ≡ refusal_word fault.now }
 {
@@ -69,8 +69,8 @@ fn refusal_word(fault: &StepFault) -> &'static [u8]
     }
 }
 
-/// Appends that the command of a number, from 1, requested a look that is refused. `NoMemory` when out of memory; a
-/// beginning of the line may then have been appended.
+/// Appends the line that the command with this number, from 1, requested a look that is refused. When out of memory, a beginning
+/// of the line may have been appended.
 #[tactic(auto, unfolding(crate::specs::StudyReport::refused_line))]
 pub fn put_refused(text: &mut List<u8>, number: usize, fault: &StepFault) -> Result<(), NoMemory>
     ensures put { OnOk result (text.new ≡ text.old ++ refused_line number fault.now) }
@@ -83,7 +83,7 @@ pub fn put_refused(text: &mut List<u8>, number: usize, fault: &StepFault) -> Res
     text.push(b'\n')
 }
 
-/// Appends the names of the hypotheses that are rejected.
+/// Appends the names of the rejected hypotheses.
 fn put_names_among(text: &mut List<u8>, case: &Case, rejections: &[Settled]) -> Result<(), NoMemory>
     ensures put { OnOk result (text.new ≡ text.old ++ names_where (content case.now) (among rejections.now)) }
     ensures begun { OnErr result (IsBegun text.old text.new (names_where (content case.now) (among rejections.now))) }
@@ -91,8 +91,8 @@ fn put_names_among(text: &mut List<u8>, case: &Case, rejections: &[Settled]) -> 
     put_names(text, case, |j| is_among(rejections, j))
 }
 
-/// Appends how many looks have arrived, and the names of the hypotheses that are rejected. `NoMemory` when out of
-/// memory; a beginning of the line may then have been appended.
+/// Appends the line of how many looks have arrived, and of the names of the rejected hypotheses. When out of memory, a beginning
+/// of the line may have been appended.
 #[tactic(auto, unfolding(crate::specs::StudyReport::shown_line))]
 pub fn put_shown(
     text: &mut List<u8>,
@@ -110,8 +110,7 @@ pub fn put_shown(
     text.push(b'\n')
 }
 
-/// Returns the lines before the replies: the level, and the number of looks that were kept before. `NoMemory` when out
-/// of memory.
+/// Returns the lines before the replies, or `NoMemory`: the level, and the number of looks that the keeper had before.
 #[tactic(auto, unfolding(crate::specs::StudyReport::opened_lines))]
 pub fn opened_text(alloc: Global, case: &Case, records: usize) -> Result<List<u8>, NoMemory>
     ensures { IfOk result (λ text. text ≡ opened_lines (content case.now) records) }

@@ -51,7 +51,7 @@ fn put_figures(text: &mut List<u8>, case: &Case, step: &StepLine) -> Result<(), 
     step.weight.print(text)
 }
 
-/// Appends the step of this number.
+/// Appends the line of the step with this number.
 #[tactic(auto, unfolding(crate::specs::TestReport::step_line))]
 fn put_step(
     text: &mut List<u8>,
@@ -69,7 +69,7 @@ fn put_step(
     text.push(b'\n')
 }
 
-/// Appends the steps, counted from 1.
+/// Appends the lines of the steps, counted from 1.
 fn put_steps(text: &mut List<u8>, case: &Case, steps: &[StepLine]) -> Result<(), NoMemory>
     requires single { IsSingle (content case.now).inputs }
     requires of_case { AreOfCase (content case.now) steps.now }
@@ -81,7 +81,7 @@ fn put_steps(text: &mut List<u8>, case: &Case, steps: &[StepLine]) -> Result<(),
     Ok(())
 }
 
-/// Appends a hypothesis that is kept.
+/// Appends the line of a retained hypothesis.
 #[tactic(auto, unfolding(crate::specs::TestReport::kept_line))]
 fn put_kept_line(text: &mut List<u8>, case: &Case, kept: &KeptLine) -> Result<(), NoMemory>
     requires single { IsSingle (content case.now).inputs }
@@ -93,7 +93,7 @@ fn put_kept_line(text: &mut List<u8>, case: &Case, kept: &KeptLine) -> Result<()
     text.push(b'\n')
 }
 
-/// Appends the hypotheses that are kept.
+/// Appends the lines of the retained hypotheses.
 fn put_kept(text: &mut List<u8>, case: &Case, kept: &[KeptLine]) -> Result<(), NoMemory>
     requires single { IsSingle (content case.now).inputs }
     requires of_case { AreOfCase (content case.now) kept.now }
@@ -105,7 +105,7 @@ fn put_kept(text: &mut List<u8>, case: &Case, kept: &[KeptLine]) -> Result<(), N
     Ok(())
 }
 
-/// Appends that a value isn't reached, if it isn't.
+/// Appends the words for a value that isn't reached, and nothing for one that is.
 fn put_reached(text: &mut List<u8>, reached: bool) -> Result<(), NoMemory>
     ensures { OnOk result (text.new ≡ text.old ++ reached_words reached) }
 {
@@ -115,7 +115,7 @@ fn put_reached(text: &mut List<u8>, reached: bool) -> Result<(), NoMemory>
     text.append(b" not reached")
 }
 
-/// Appends the adjusted value of the hypothesis at a position.
+/// Appends the line of the adjusted value of the hypothesis at a position.
 #[tactic(auto, unfolding(crate::specs::TestReport::adjusted_line))]
 fn put_adjusted_line(
     text: &mut List<u8>,
@@ -134,7 +134,7 @@ fn put_adjusted_line(
     text.push(b'\n')
 }
 
-/// Appends the adjusted values, one for each hypothesis.
+/// Appends the lines of the adjusted values, one for each hypothesis.
 fn put_adjusted(text: &mut List<u8>, case: &Case, values: &[Adjusted]) -> Result<(), NoMemory>
     requires { length values.now ≡ length (content case.now).names }
     ensures { OnOk result (text.new ≡ text.old ++ adjusted_lines (content case.now) 0 values.now) }
@@ -145,11 +145,11 @@ fn put_adjusted(text: &mut List<u8>, case: &Case, values: &[Adjusted]) -> Result
     Ok(())
 }
 
-/// Returns what the command `test` prints: the level, the steps of the decision, the hypotheses that it keeps, the
-/// names of those that it rejects, and the adjusted values.
+/// Returns what the command `test` prints, or `NoMemory`: the level, the steps of the decision, the retained hypotheses, the
+/// names of the rejected ones, and the adjusted values.
 ///
 /// Each hypothesis of the decision must be one of the case, which must have a p-value for each hypothesis, and there
-/// must be an adjusted value for each. `NoMemory` when out of memory.
+/// must be an adjusted value for each.
 #[tactic(auto, unfolding(crate::specs::TestReport::test_report))]
 pub fn test_text(
     alloc: Global,

@@ -79,7 +79,7 @@ fn put_line(text: &mut List<u8>, case: &Case, table: &WeightTable, set: u32) -> 
     text.push(b'\n')
 }
 
-/// Appends the line of a set; nothing for the empty one.
+/// Appends the line of a set, and nothing for the empty set.
 fn put_set(text: &mut List<u8>, case: &Case, table: &WeightTable, set: u32) -> Result<(), NoMemory>
     requires size { weights_size table.now ≡ length (content case.now).names }
     requires set { set < 2 ^ weights_size table.now }
@@ -127,9 +127,8 @@ fn text_of_sets(
     Ok(text)
 }
 
-/// Returns what the command `weights` prints: how many hypotheses there are, and for each set that isn't empty, in the
-/// order of sets, the weights of its members. The table must be for the hypotheses of the case. `NoMemory` when out of
-/// memory.
+/// Returns what the command `weights` prints, or `NoMemory`: how many hypotheses there are, and for each set that isn't empty, in
+/// the order of sets, the weights of its members. The table must be for the hypotheses of the case.
 pub fn weights_text(alloc: Global, case: &Case, table: &WeightTable) -> Result<List<u8>, NoMemory>
     requires { weights_size table.now ≡ length (content case.now).names }
     ensures { IfOk result (λ text. IsWeightsReport (content case.now) (weight_at table.now) text) }

@@ -1,4 +1,4 @@
--- The clearing of a row: all its polynomials are divided by the same things, so no value changes. Nothing is written.
+-- The clearing of a row: all its polynomials are divided by the same factors, so no value changes. No written operation is involved.
 use Rattle.std.specs.Prelude.{ℕ, min, ℤ, pos, List, [], ◌∷◌, map, Option, Some}
 use Rattle.std.specs.List.{fold}
 use Rattle.std.specs.Option.{unwrap_or}
@@ -35,11 +35,11 @@ row_content r = fold (λ c p. gcd c (content p)) (content r.denominator) r.numer
 unfoldable pub row_order : StoredRow → ℕ
 row_order r = fold (λ k p. min k (order p)) (order r.denominator) r.numerators
 
--- a row by a number and a power of epsilon
+-- a row divided by a number and a power of epsilon
 abbrev pub row_by : ℕ → ℤ → StoredRow → StoredRow
 row_by k c r = record { numerators = map (lowered k c) r.numerators; denominator = lowered k c r.denominator }
 
--- the row by its common content and its common power of epsilon
+-- the row divided by its common content and its common power of epsilon
 unfoldable pub lowered_row : StoredRow → StoredRow
 lowered_row r = row_by (row_order r) (pos (row_content r)) r
 

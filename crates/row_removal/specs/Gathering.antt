@@ -27,7 +27,7 @@ module _ (G : StoredGraph) where
   given None k = weight quotients G k
   given (Some l) k = edge quotients G l k
 
-  -- the constant of its denominator
+  -- the denominator of a number of a row, by its coefficient of power 0
   abbrev pub given_below : Option ℕ → ℕ → ℤ
   given_below row k = coefficient (given row k).denominator 0
 

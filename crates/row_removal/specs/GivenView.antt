@@ -9,7 +9,7 @@ use Rattle.row_removal.specs.Gathering.{HasConstants}
 abbrev pub graph_given : List EpsQuotient → List EpsQuotient → StoredGraph
 graph_given ws es = all_live (map quotient_parts ws) (map quotient_parts es)
 
--- this number of weights, a row of edges for each, and all over constants
+-- at most 64 weights, a row of edges for each, and all denominators are constants
 pub record AreGiven (weights edges : List EpsQuotient) : Type 0 where
   pub square : IsSquare (length weights) (length weights) (length edges)
   pub constants : HasConstants (graph_given weights edges)

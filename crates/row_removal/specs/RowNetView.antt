@@ -6,11 +6,11 @@ use Rattle.row_removal.specs.StoredRows.{StoredRows, rows_graph}
 use Rattle.row_removal.specs.Proper.{AreProperRows}
 use Rattle.row_removal.specs.declared.net.RowNet.{RowNet}
 
--- the rows of the hypotheses that are in
+-- the present rows of a net
 unfoldable pub present_rows : RowNet → StoredRows
 present_rows n = n.present
 
--- the rows that wait to become the present ones
+-- the rows that are prepared to become the present ones, if there are some
 unfoldable pub prepared_rows : RowNet → Option StoredRows
 prepared_rows n = if n.is_prepared then Some n.next else None
 
@@ -19,7 +19,7 @@ pub row_net_sound : (n : RowNet) → IsSound quotients (rows_graph (present_rows
 unfolding present_rows
 row_net_sound n = n.sound
 
--- (and its rows are proper)
+-- (the present rows of a net are proper)
 pub row_net_proper : (n : RowNet) → AreProperRows (present_rows n)
 unfolding present_rows
 row_net_proper n = n.proper

@@ -11,7 +11,7 @@ pub record StoredRow : Type 0 where
   pub numerators : List (List ℤ)
   pub denominator : List ℤ
 
--- zeros over 1, of this number
+-- a row of `m` zeros over 1
 unfoldable pub zero_row : ℕ → StoredRow
 zero_row m = record { numerators = replicate m zero_polynomial; denominator = one_polynomial }
 

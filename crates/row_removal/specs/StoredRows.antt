@@ -14,7 +14,7 @@ pub record StoredRows : Type 0 where
   pub edges : List StoredRow
   pub last : List ℤ
 
--- this number of hypotheses, all remaining, with no weights and no edges
+-- `m` hypotheses, all of which remain, with weights and edges of 0
 unfoldable pub zero_rows : ℕ → StoredRows
 zero_rows m = record { live = replicate m true; weights = zero_row m; edges = replicate m (zero_row m); last = one_polynomial }
 

@@ -31,7 +31,7 @@ fn place(row: Option<usize>, k: usize) -> Place
     }
 }
 
-/// Weights and edges over constants.
+/// The weights and edges of a graph, all of whose denominators are constants.
 #[derive(Drop)]
 pub struct GivenGraph<'a> {
     weights: &'a [EpsQuotient],
@@ -51,7 +51,8 @@ impl<'a> Model for GivenGraph<'a> {
 
 #[tactic(auto, using(crate::proofs::Given::size_given))]
 impl GivenGraph<'_> {
-    /// Weights and edges over constants: at most 64 weights, and a row of edges for each.
+    /// Returns the graph of these weights and edges, whose denominators are constants. There are at most 64 weights, and a row of
+    /// edges for each.
     pub fn new<'a>(weights: &'a [EpsQuotient], edges: &'a [EpsQuotient]) -> GivenGraph<'a>
         requires { AreGiven weights.now edges.now }
         ensures { result ≡ graph_given weights.now edges.now }
@@ -84,7 +85,7 @@ impl GivenGraph<'_> {
         }
     }
 
-    /// Returns the constant below a number of a row.
+    /// Returns the denominator of a number of a row, which is a constant.
     fn below(&self, row: Option<usize>, k: usize) -> Whole
         requires row { IfSome row (λ l. l < size self.now) }
         requires k { k < size self.now }
@@ -95,7 +96,7 @@ impl GivenGraph<'_> {
         self.number(row, k).denominator().whole(0)
     }
 
-    /// Returns the common denominator with that of one number more.
+    /// Returns the common denominator `c` with that of the number `k` added: their least common multiple, or `c` if the number is 0.
     #[tactic(auto, unfolding(crate::specs::Gathering::with_denominator))]
     fn with_denominator(&self, row: Option<usize>, k: usize, c: Whole) -> Result<Whole, Wide>
         requires row { IfSome row (λ l. l < size self.now) }
@@ -127,7 +128,7 @@ impl GivenGraph<'_> {
         Ok(c)
     }
 
-    /// Returns the numerator of a number over the common denominator.
+    /// Returns the numerator of a number over the common denominator `c`.
     #[tactic(auto, unfolding(crate::specs::Gathering::gathered_numerator))]
     fn numerator(&self, row: Option<usize>, c: Whole, k: usize) -> Result<EpsPoly, Wide>
         requires row { IfSome row (λ l. l < size self.now) }
@@ -143,7 +144,7 @@ impl GivenGraph<'_> {
         x.numerator().mul(&missing).map_err(|wide| wide.at(place))
     }
 
-    /// Writes the numerators of a row over the common denominator.
+    /// Writes the numerators of a row over the common denominator `c`.
     fn write_numerators(
         &self,
         row: Option<usize>,

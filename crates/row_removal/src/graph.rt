@@ -1,4 +1,4 @@
-//! A weighted graph in rows, what is read of it, and the one after a removal.
+//! A weighted graph in rows, what is read from it, and the graph after a removal.
 ghost use Rattle.std.specs.Prelude.{◌≡◌, length, replicate, All, IfOk};
 ghost use Rattle.field_core.specs.Polynomial.{IsNonZero};
 ghost use Rattle.eps_quotient.specs.Lowering.{norm};
@@ -25,7 +25,7 @@ fn quotient(above: &EpsPoly, below: &EpsPoly) -> EpsQuotient
     }
 }
 
-/// Rows of zeros over 1: this number of rows, of this length.
+/// Returns `count` rows, each of `count` zeros over 1.
 fn zero_rows(alloc: Global, count: usize) -> Result<Vec<Row>, NoMemory>
     ensures { IfOk result (λ rows. rows.items ≡ replicate count (zero_row count)) }
 {
@@ -36,7 +36,7 @@ fn zero_rows(alloc: Global, count: usize) -> Result<Vec<Row>, NoMemory>
     Ok(rows)
 }
 
-/// Takes the numbers of the same number of rows of the same length.
+/// Copies rows into others; there are equally many, and all have the same length.
 fn copy_rows(rows: &mut [Row], other: &[Row], count: usize)
     requires length { length rows.old ≡ length other.now }
     requires rows { All (λ r. length r.numerators ≡ count) rows.old }
@@ -89,7 +89,7 @@ impl RowGraph {
         self.live[k]
     }
 
-    /// Whether `k` isn't in after the removal of `j`.
+    /// Whether `k` doesn't remain after the removal of `j`.
     pub fn is_gone(&self, j: usize, k: usize) -> bool
         requires { k < rows_size self.now }
         ensures { result ≡ is_gone (rows_graph self.now) j k }
@@ -146,7 +146,7 @@ impl RowGraph {
     ghost use Rattle.row_removal.specs.Proper.{AreProperRows, HasRoom};
     ghost use Rattle.row_removal.specs.StoredRows.{rows_size, zero_rows};
 
-    /// Hypotheses, all in, without weights and edges.
+    /// Returns a graph of `count` hypotheses, all of which remain, with weights and edges of 0.
     pub fn zeros(alloc: Global, count: usize) -> Result<RowGraph, NoMemory>
         ensures { IfOk result (λ g. g ≡ zero_rows count) }
     {
@@ -161,7 +161,7 @@ impl RowGraph {
         })
     }
 
-    /// Takes the marks and rows of a graph of the same size.
+    /// Copies the marks and rows of a graph of the same size into this one.
     pub fn copy_from(&mut self, other: &RowGraph)
         requires room { HasRoom (rows_size other.now) self.old }
         requires other { HasRoom (rows_size other.now) other.now }
@@ -228,7 +228,8 @@ impl RowGraph {
     ghost use Rattle.row_removal.specs.StoredRows.{rows_size, rows_graph};
     ghost use Rattle.row_removal.specs.RowRemoval.{row_removal};
 
-    /// Writes the rows after the removal of `j` into `next`. `spare` is room for quotients.
+    /// Writes the rows after the removal of `j` into `next`, or returns the first operation that is undefined. `spare` is room for
+    /// quotients.
     pub fn write_removal(&self, j: usize, next: &mut RowGraph, spare: &mut Row) -> Result<(), Wide>
         requires proper { AreProperRows self.now }
         requires live { is_live (rows_graph self.now) j ≡ true }
@@ -256,7 +257,8 @@ impl RowGraph {
     ghost use Rattle.row_removal.specs.Gathering.{gathered};
     ghost use Rattle.row_removal.specs.Proper.{HasRoom};
 
-    /// Writes the rows that are gathered from weights and edges over constants; the marks stay.
+    /// Writes the rows that are gathered from these weights and edges, or returns the first operation that is undefined. The marks
+    /// stay.
     pub fn gather(&mut self, given: &GivenGraph<'_>) -> Result<(), Wide>
         requires live { self.old.live ≡ given.now.live }
         requires room { HasRoom (size given.now) self.old }

@@ -1,7 +1,7 @@
-//! The removal of a hypothesis from a weighted graph of quotients in epsilon, kept in rows over one denominator.
+//! The removal of a hypothesis from a weighted graph of quotients in epsilon, which is stored in rows over one denominator each.
 //!
-//! Proved: `RowNet` is a `Remover` over quotients in epsilon that keeps each row of numerators over one denominator,
-//! and clears what the rows have in common; `try_new`. Cases with epsilon run on it.
+//! Proved: `RowNet` is a `Remover` over quotients in epsilon. It stores each row as numerators over one denominator, and divides
+//! a row by what its polynomials have in common. Also `try_new`. Cases with epsilon run on it.
 #![tactic(auto)]
 
 mod gathering;

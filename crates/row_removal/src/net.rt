@@ -13,10 +13,10 @@ use field_core::{Fault, Number, Ratio, Wide};
 use removal::Remover;
 use std::alloc::Global;
 
-/// Why no rows were opened: a written operation of the gathering has a part past its size, or memory is out.
+/// Why no rows were opened: a written operation of the gathering has a part past its size, or the call is out of memory.
 pub type RowOpen = Fault<Wide>;
 
-/// A graph of quotients in epsilon in rows, room for the one after the next removal, and a spare row for the quotients of a
+/// A graph of quotients in epsilon in rows, room for the graph after the next removal, and a spare row for the quotients of a
 /// clearing.
 ///
 /// All exist from the start, so no removal takes memory.
@@ -50,7 +50,7 @@ impl RowNet {
     /// hypotheses, a weight and a row of edges for each, they are a valid graph, and every denominator is a constant. The edges
     /// are in order, row by row. The number for an edge from a hypothesis to itself isn't read.
     ///
-    /// The rows are gathered. Unless out of memory, it is `RowOpen::Wide` exactly if the gathering is undefined.
+    /// The rows are gathered. Unless out of memory, the call is refused with `RowOpen::Wide` exactly if the gathering is undefined.
     pub fn try_new(
         alloc: Global,
         weights: &[EpsQuotient],

@@ -15,7 +15,7 @@ use field_core::{NoMemory, Whole, gcd};
 use std::alloc::Global;
 use std::marker::Model;
 
-/// Divides each by a number above 0 and a power of epsilon of at most 32.
+/// Divides each polynomial by a number above 0 and a power of epsilon of at most 32.
 fn lower_all(power: usize, by: Whole, numerators: &mut [EpsPoly])
     requires power { power ≤ 32 }
     requires by { pos 0 <ℤ by }
@@ -26,7 +26,7 @@ fn lower_all(power: usize, by: Whole, numerators: &mut [EpsPoly])
     }
 }
 
-/// Makes each 0.
+/// Makes each polynomial 0.
 fn clear_all(numerators: &mut [EpsPoly])
     ensures { numerators.new ≡ replicate (length numerators.old) zero_polynomial }
 {
@@ -35,7 +35,7 @@ fn clear_all(numerators: &mut [EpsPoly])
     }
 }
 
-/// Makes it 1.
+/// Makes a polynomial 1.
 #[tactic(auto, unfolding(eps_poly::specs::Polynomials::monomial))]
 fn put_one(p: &mut EpsPoly)
     ensures { p.new ≡ one_polynomial }
@@ -44,7 +44,7 @@ fn put_one(p: &mut EpsPoly)
     p.put(0, Whole::new(1));
 }
 
-/// Takes other polynomials, the same number of them.
+/// Copies polynomials into others, of which there are equally many.
 fn copy_all(numerators: &mut [EpsPoly], other: &[EpsPoly])
     requires { length numerators.old ≡ length other.now }
     ensures { numerators.new ≡ other.now }
@@ -54,7 +54,7 @@ fn copy_all(numerators: &mut [EpsPoly], other: &[EpsPoly])
     }
 }
 
-/// Writes the exact quotients of polynomials, or is `None` exactly if one has none. `room` is for a product.
+/// Writes the exact quotients of polynomials by `by`, or returns `None` exactly if one has none. `room` is for a product.
 fn write_quotients(
     numerators: &[EpsPoly],
     by: &EpsPoly,
@@ -71,7 +71,7 @@ fn write_quotients(
     Some(())
 }
 
-/// Returns the greatest common divisor with the content of a polynomial. That isn't computed if the divisor is 1.
+/// Returns the greatest common divisor of `divisor` and the content of a polynomial, which isn't computed if `divisor` is 1.
 fn common_content(divisor: u128, p: &EpsPoly) -> u128
     ensures { result ≡ gcd divisor (content p.now) }
 {
@@ -98,7 +98,7 @@ impl Model for Row {
 
 #[tactic(auto, unfolding(crate::specs::StoredRow::zero_row))]
 impl Row {
-    /// Returns zeros over 1, of this length.
+    /// Returns a row of `count` zeros over 1.
     pub fn zeros(alloc: Global, count: usize) -> Result<Row, NoMemory>
         ensures { IfOk result (λ r. r ≡ zero_row count) }
     {
@@ -108,7 +108,7 @@ impl Row {
         })
     }
 
-    /// Takes the numbers of a row of the same length.
+    /// Copies a row of the same length into this one.
     pub fn copy_from(&mut self, other: &Row)
         requires { length self.old.numerators ≡ length other.now.numerators }
         ensures { self.new ≡ other.now }
@@ -117,7 +117,7 @@ impl Row {
         self.denominator.copy_from(&other.denominator);
     }
 
-    /// Becomes zeros over 1.
+    /// Makes the row zeros over 1, of the same length.
     pub fn put_zeros(&mut self)
         ensures zeros { self.new ≡ zero_row (length self.old.numerators) }
         ensures room { length self.new.numerators ≡ length self.old.numerators }
@@ -146,7 +146,7 @@ impl Row {
 }
 
 impl Row {
-    /// Writes the row of the exact quotients by `by`, or is `None` exactly if one polynomial has none.
+    /// Writes the row of the exact quotients by `by`, or returns `None` exactly if one polynomial has none.
     #[tactic(auto, using(std::proofs::lemmas::List::with_items_is), unfolding(crate::specs::Clearing::quotient_row))]
     fn write_quotient_row(&self, by: &EpsPoly, next: &mut Row) -> Option<()>
         requires some { IsNonZero by.now }
@@ -161,7 +161,8 @@ impl Row {
         Some(())
     }
 
-    /// Becomes the row of the exact quotients by `by`, if each polynomial has one; else it stays. `spare` is room for them.
+    /// Replaces the row by that of the exact quotients by `by`, if each polynomial has one; else the row stays. `spare` is room for
+    /// the quotients.
     #[tactic(auto, using(std::proofs::lemmas::List::with_items_is), unfolding(crate::specs::Clearing::divided_row))]
     fn divide(&mut self, by: &EpsPoly, spare: &mut Row)
         requires some { IsNonZero by.now }
@@ -220,7 +221,7 @@ impl Row {
         self.denominator.lower(power, content);
     }
 
-    /// Clears the row: if each polynomial has an exact quotient by `by`, it becomes that, and then all are divided by their
+    /// Clears the row: if each polynomial has an exact quotient by `by`, all are replaced by these. Then all are divided by their
     /// common content and their common power of epsilon. `spare` is room for the quotients.
     pub fn clear(&mut self, by: &EpsPoly, spare: &mut Row)
         requires some { IsNonZero by.now }

@@ -11,7 +11,7 @@ use Rattle.sequential.specs.Trials.{TrialContent, IsTrialOf}
 abbrev pub with_p : Content → List Ratio → Content
 with_p c ps = record c { inputs = Single ps }
 
--- A case is one with other p-values still, if there is one for each hypothesis.
+-- A case stays valid with other p-values in place of its own, one for each hypothesis.
 abbrev pub CasesAreValidWithOtherPValues : Type 0
 CasesAreValidWithOtherPValues = (c : Content) (ps : List Ratio) → IsValidContent c → ArePValues (length c.names) ps → IsValidContent (with_p c ps)
 

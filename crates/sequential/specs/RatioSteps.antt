@@ -12,7 +12,7 @@ pub record IsStepByRatio (old new : TrialContent) (x : RatioStep) : Type 0 where
   pub step : IsStepOf Ratio old new x.line
   pub least : HasLeastRatioBelow (length old.p_values) old.p_values old.state x.line.hypothesis (terms x.ratio)
 
--- one more step, or the end
+-- one more step of the run by ratios, or its end
 abbrev pub IsRatioStep : TrialContent → TrialContent → Option RatioStep → Type 0
 IsRatioStep old new None = IsEndOf Ratio old new
 IsRatioStep old new (Some x) = IsStepByRatio old new x

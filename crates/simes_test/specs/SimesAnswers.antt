@@ -8,11 +8,11 @@ use Rattle.case_model.specs.SetAnswers.{AnswersFor}
 use Rattle.simes_test.specs.SimesTest.{IsSimesRejected, IsSimesClosed}
 use Rattle.simes_test.specs.SimesSums.{AreSumsDefined}
 
--- a table says which sets Simes' test rejects
+-- a table answers for each set whether Simes' test rejects it
 abbrev pub AreSimesAnswers : Content → (ℕ → Bool) → Type 0
 AreSimesAnswers c table = ForSingle c.inputs (λ ps. AnswersFor (length c.names) (IsSimesRejected (entangled c) (number_at ps) (number_of c.alpha)) table)
 
--- a table says which sets its closed test rejects
+-- a table answers for each set whether the closed test of Simes' test rejects it
 abbrev pub AreSimesClosedAnswers : Content → (ℕ → Bool) → Type 0
 AreSimesClosedAnswers c table = ForSingle c.inputs (λ ps. AnswersFor (length c.names) (IsSimesClosed (entangled c) (number_at ps) (number_of c.alpha)) table)
 

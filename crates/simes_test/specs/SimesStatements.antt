@@ -14,20 +14,20 @@ LocalRejectionsAreOfSimes =
     (E : EntangledGraph) (p : ℕ → Number) (level : Number) (I : ℕ → Bool) → IsValidEntangled E → IsUnit level
     → IsLocallyRejected E p level I → IsSimesRejected E p level I
 
--- Its closed test rejects each set, and each hypothesis, that the closed test rejects.
+-- The closed test of Simes' test rejects each set, and each hypothesis, that the closed test by weights rejects.
 abbrev pub ClosedRejectionsAreOfSimes : Type 0
 ClosedRejectionsAreOfSimes =
     (E : EntangledGraph) (p : ℕ → Number) (level : Number) → IsValidEntangled E → IsUnit level
     → ((S : ℕ → Bool) → IsClosedRejected E p level S → IsSimesClosed E p level S)
     × ((j : ℕ) → IsRejected E p level j → IsSimesClosedAlone E p level j)
 
--- No bound by it is below that of the closed test.
+-- No bound by the closed test of Simes' test is below that by the closed test by weights.
 abbrev pub NoSimesBoundIsLower : Type 0
 NoSimesBoundIsLower =
     (E : EntangledGraph) (p : ℕ → Number) (level : Number) (S : ℕ → Bool) (a b : ℕ) → IsValidEntangled E → IsUnit level
     → IsBound E.hypotheses (IsClosedRejected E p level) S a → IsBound E.hypotheses (IsSimesClosed E p level) S b → a ≤ b
 
--- A table of what it rejects has its bounds.
+-- A table of the sets that the closed test of Simes' test rejects gives its bounds.
 abbrev pub SimesTablesGiveSimesBounds : Type 0
 SimesTablesGiveSimesBounds =
     (E : EntangledGraph) (p : ℕ → Number) (level : Number) (table : ℕ → Bool) (S : ℕ → Bool) (b : ℕ)

@@ -11,32 +11,32 @@ use Rattle.case_model.specs.Sums.{zero_ratio, number_at, written_sum}
 use Rattle.closed_test.specs.SetRuns.{IsEarlierSet}
 use Rattle.simes_test.specs.SimesTest.{is_up_to}
 
--- (The hypotheses have these p-values, and of each set and each of its members there is a weight.)
+-- (The hypotheses have the p-values `ps`, and `weight n i` is the weight of the member `i` in the set of `n`.)
 module _ (ps : List Ratio) (weight : ℕ → ℕ → Ratio) where
-  -- the weight of `i` in the set of `n`, if it is a member whose p-value is at most that of `j`, and else 0
+  -- the weight of `i` in the set of `n`, if `i` is a member whose p-value is at most that of `j`, and else 0
   unfoldable pub weight_up_to : ℕ → ℕ → ℕ → Ratio
   weight_up_to n j i = if is_up_to (number_at ps) (members n) j i then weight n i else zero_ratio
 
--- (There are `m` of them.)
+-- (There are `m` hypotheses.)
 module _ (m : ℕ) (ps : List Ratio) (weight : ℕ → ℕ → Ratio) where
   -- the sum of `j` in the set of `n`, written one weight after the other by ascending position
   abbrev pub sum_up_to : ℕ → ℕ → Option Terms
   sum_up_to n j = written_sum m (weight_up_to ps weight n j)
 
-  -- it is defined
+  -- the sum of `j` in the set of `n` is defined
   abbrev pub IsSumDefined : ℕ → ℕ → Type 0
   IsSumDefined n j = (t : Terms) × (sum_up_to n j ≡ Some t)
 
-  -- so are the sums of all members of the set of `n`
+  -- the sums of all members of the set of `n` are defined
   abbrev pub AreSumsDefined : ℕ → Type 0
   AreSumsDefined n = (j : ℕ) → IsIn m (members n) j → IsSumDefined n j
 
-  -- it isn't defined, and `w` is where
+  -- the sum of `j` in the set of `n` isn't defined, and `w` is where
   pub record IsWideSum (n j : ℕ) (w : WideAt) : Type 0 where
     pub undefined : sum_up_to n j ≡ None
     pub fault : w ≡ record { component = 0; place = Level j; op = Add }
 
-  -- `w` is the first member of the set of `n`, by ascending position, whose sum isn't defined
+  -- the sum of some member of the set of `n` isn't defined, and `w` is where, for the first such member by ascending position
   pub record IsWideMember (n : ℕ) (w : WideAt) : Type 0 where
     pub hypothesis : ℕ
     pub member : IsIn m (members n) hypothesis

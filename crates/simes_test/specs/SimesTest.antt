@@ -11,7 +11,7 @@ use Rattle.case_model.specs.EntangledGraph.{EntangledGraph}
 use Rattle.case_model.specs.IntersectionWeight.{IsIntersectionWeight}
 use Rattle.case_model.specs.ClosedTest.{Passes, IsClosedRejectedBy, IsRejectedBy}
 
--- `i` is a member of `I` whose p-value is at most that of `j`
+-- whether `i` is a member of `I` whose p-value is at most that of `j`
 unfoldable pub is_up_to : (ℕ → Number) → (ℕ → Bool) → ℕ → ℕ → Bool
 is_up_to p I j i = I i && at_most (p i) (p j)
 
@@ -31,10 +31,10 @@ module _ (E : EntangledGraph) (p : ℕ → Number) where
       pub is_sum : IsSumUpTo I hypothesis sum
       pub passes : Passes (p hypothesis) sum level
 
-    -- its closed test rejects the intersection of `S`, which isn't empty: Simes' test rejects each set that holds `S`
+    -- the closed test of Simes' test rejects the intersection of `S`, which isn't empty: Simes' test rejects each set that contains `S`
     abbrev pub IsSimesClosed : (ℕ → Bool) → Type 0
     IsSimesClosed = IsClosedRejectedBy E.hypotheses IsSimesRejected
 
-    -- its closed test rejects a hypothesis: it rejects the set of it alone
+    -- the closed test of Simes' test rejects a hypothesis: it rejects the set whose only member is the hypothesis
     abbrev pub IsSimesClosedAlone : ℕ → Type 0
     IsSimesClosedAlone = IsRejectedBy E.hypotheses IsSimesRejected

@@ -4,14 +4,14 @@ use Rattle.case_model.specs.declared.set_table.SetTable.{SetTable}
 use Rattle.case_model.specs.SetTableView.{table_size}
 use Rattle.simes_test.specs.declared.table.SimesTable.{SimesTable}
 
--- what Simes' test says
+-- which sets Simes' test rejects
 abbrev pub local_of : SimesTable → SetTable
 local_of t = t.local
 
--- what its closed test says
+-- which sets the closed test of Simes' test rejects
 abbrev pub closed_of : SimesTable → SetTable
 closed_of t = t.closed
 
--- for how many hypotheses a table is
+-- the number of hypotheses that a table is for
 abbrev pub simes_size : SimesTable → ℕ
 simes_size t = table_size t.closed

@@ -18,19 +18,19 @@ module _ (m : ℕ) (ps : List Ratio) (weight : ℕ → ℕ → Ratio) (alpha : R
     pub is_sum : sum_up_to m ps weight n j ≡ Some sum
     pub passes : Passes (number_at ps j) (number sum) (number_of alpha)
 
-  -- so does that of some member of the set
+  -- the p-value of some member of the set of `n` passes at its sum there
   pub record HasPassing (n : ℕ) : Type 0 where
     pub hypothesis : ℕ
     pub member : IsIn m (members n) hypothesis
     pub passes : PassesAtSum n hypothesis
 
-  -- the sum of `j` is defined, and `told` says whether its p-value passes there
+  -- the sum of `j` is defined, and `told` is whether its p-value passes at this sum
   pub record IsMemberTested (n j : ℕ) (told : Bool) : Type 0 where
     pub sum : Terms
     pub is_sum : sum_up_to m ps weight n j ≡ Some sum
     pub answer : IsTrue told ↔ Passes (number_at ps j) (number sum) (number_of alpha)
 
-  -- the sums of a set are defined, and `told` says whether some p-value passes there
+  -- the sums of a set are defined, and `told` is whether some p-value passes at its sum
   pub record IsTested (n : ℕ) (told : Bool) : Type 0 where
     pub defined : AreSumsDefined m ps weight n
     pub answer : IsTrue told ↔ HasPassing n

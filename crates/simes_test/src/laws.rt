@@ -14,7 +14,8 @@ pub fn simes_rejects_more()
     ensures closed { ClosedRejectionsAreOfSimes }
 {}
 
-/// No bound by the closed test of Simes' test is below that of the closed test, and a table of what it rejects has its bounds.
+/// No bound by the closed test of Simes' test is below that of the closed test. A table of the sets that it rejects gives its
+/// bounds.
 pub fn simes_bounds_are_no_lower()
     ensures lower { NoSimesBoundIsLower }
     ensures tables { SimesTablesGiveSimesBounds }

@@ -1,11 +1,12 @@
 //! Simes' test of all intersections with the weights of their members, and its closed test.
 //!
 //! Proved, for at most 16 hypotheses:
-//! - `SimesTable::build`: `local` and `closed` (Simes' test and its closed test of each set). `defined` and `fault` (the sums
-//!   of all members of all sets are defined; or the first set, in the order of sets, and its first member whose sum isn't).
+//! - `SimesTable::build`: `local` and `closed` (Simes' test and its closed test of each set). `defined` and `fault`: it returns a
+//!   table only if the sums of all members of all sets are defined. Else it names the first set, in the order of sets, with an
+//!   undefined sum, and the first such member.
 //! - `leaders`: all positions, each once, by ascending p-value, equal ones by position.
-//! - As laws (`src/laws.rt`): what the tests by weights reject, locally or closed, Simes' test rejects so, and no bound by
-//!   it is lower.
+//! - Laws (`src/laws.rt`): Simes' test rejects each set that the local test by weights rejects, and its closed test each set and
+//!   hypothesis that the closed test rejects. No bound by it is lower.
 //!
 //! Nothing is claimed of when Simes' test is valid.
 #![tactic(auto)]

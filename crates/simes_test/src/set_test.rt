@@ -12,7 +12,7 @@ use closed_test::WeightTable;
 use field_core::{Place, WideAt};
 use fraction::Fraction;
 
-/// Returns whether the p-value of `j` passes at its sum in a set, or refuses a sum that isn't defined.
+/// Returns whether the p-value of `j` passes at its sum in a set, or the undefined operation of this sum.
 fn member_passes(
     weights: &WeightTable,
     p_values: &[Fraction],
@@ -34,7 +34,7 @@ fn member_passes(
     }
 }
 
-/// Returns whether Simes' test rejects a set, or the first sum that isn't defined.
+/// Returns whether Simes' test rejects a set, or the undefined operation of the first sum that isn't defined.
 pub fn is_rejected(
     weights: &WeightTable,
     p_values: &[Fraction],

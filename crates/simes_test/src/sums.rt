@@ -11,7 +11,7 @@ use closed_test::WeightTable;
 use field_core::{Number, TooWide};
 use fraction::Fraction;
 
-/// Returns the weight of `i` in a set, if it is a member whose p-value is at most that of `j`, and else 0.
+/// Returns the weight of `i` in a set, if `i` is a member whose p-value is at most that of `j`, and else 0.
 fn weight_up_to(
     weights: &WeightTable,
     p_values: &[Fraction],

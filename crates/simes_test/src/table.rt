@@ -15,7 +15,7 @@ use closed_test::{Path, WeightTable, closed_answers};
 use sequential::single_p_values;
 use std::alloc::Global;
 
-/// What Simes' test and its closed test say of each set of the hypotheses of a case, of which there are at most 16.
+/// Which sets of the hypotheses of a case Simes' test and its closed test reject. There are at most 16 hypotheses.
 #[derive(Drop)]
 pub struct SimesTable {
     local: SetTable,
@@ -23,7 +23,7 @@ pub struct SimesTable {
     ghost same_size: { table_size local ≡ table_size closed },
 }
 
-/// Returns what Simes' test says of each set.
+/// Returns for each set whether Simes' test rejects it, or the fault of the first sum that is undefined.
 fn local_answers(alloc: Global, case: &Case, weights: &WeightTable) -> Result<SetTable, SimesFault>
     requires single { IsSingle (content case.now).inputs }
     requires size { weights_size weights.now ≡ length (content case.now).names }
@@ -66,9 +66,9 @@ impl SimesTable {
     /// Returns Simes' test of all sets and its closed test, by the weights of all sets of the case. The case has a p-value for
     /// each hypothesis, and is tested at its level.
     ///
-    /// Unless out of memory, there is no table exactly if the sum of some member of some set isn't defined. The fault names the
-    /// first such set in the order of sets, and its first such member. All sums are made, also if the set is rejected by an
-    /// earlier one.
+    /// Unless out of memory, the call is refused exactly if the sum of some member of some set is undefined. The fault names the
+    /// first such set in the order of sets, and its first such member. All sums of a set are computed, even if an earlier one
+    /// rejects the set.
     pub fn build(
         alloc: Global,
         case: &Case,
@@ -88,7 +88,7 @@ impl SimesTable {
         Ok(SimesTable { local, closed })
     }
 
-    /// Whether Simes' test rejects a set; a table that was built says no to the empty one.
+    /// Whether Simes' test rejects a set. For the empty set this is false in a table that was built.
     pub fn local(&self, set: u32) -> bool
         requires { set < 2 ^ simes_size self.now }
         ensures { result ≡ answer_of (local_of self.now) set }
@@ -96,7 +96,7 @@ impl SimesTable {
         self.local.get(set)
     }
 
-    /// Whether its closed test rejects a set; a table that was built says no to the empty one.
+    /// Whether the closed test of Simes' test rejects a set. For the empty set this is false in a table that was built.
     pub fn closed(&self, set: u32) -> bool
         requires { set < 2 ^ simes_size self.now }
         ensures { result ≡ answer_of (closed_of self.now) set }
@@ -104,7 +104,7 @@ impl SimesTable {
         self.closed.get(set)
     }
 
-    /// Returns what its closed test says of each set.
+    /// Returns the table of which sets the closed test of Simes' test rejects.
     pub fn closed_table(&self) -> &SetTable
         ensures table { result.now ≡ closed_of self.now }
         ensures size { table_size result.now ≡ simes_size self.now }

@@ -22,7 +22,7 @@ arrivals_of (Staged s) = s.arrivals
 arrivals_of Bare = []
 arrivals_of (Single ps) = []
 
--- the written opening and the written removals of what is rejected are defined
+-- the written opening and the written removals of the rejected hypotheses are defined
 pub record IsDefined (c : Content) (s : StudyState) : Type 0 where
   pub state : CaseState
   pub state_is : case_after c (positions_of s.rejected) ≡ Ok state
@@ -52,7 +52,7 @@ IsLookFault c old a n (Opening w) = ⊥
 IsLookFault c old a n (Arriving i w) = (i ≡ n) × IsWideLook c old a w
 IsLookFault c old a n NoMemory = Unit {0}
 
--- what becomes of a fault of the opening
+-- a fault of the opening as a fault of looks
 abbrev pub at_opening : OpenFault → LooksFault
 at_opening (OpenWide w) = Opening w
 at_opening OpenNoMemory = NoMemory

@@ -29,7 +29,7 @@ start = record { values = []; rejected = [] }
 abbrev pub positions_of : List Settled → List ℕ
 positions_of rs = map (λ r. r.hypothesis) rs
 
--- the hypotheses that aren't rejected
+-- the set of the hypotheses that aren't rejected
 abbrev pub remaining : StudyState → ℕ → Bool
 remaining s = left_after whole (positions_of s.rejected)
 
@@ -45,8 +45,8 @@ pub record IsStage (c : Content) (t : ℕ) : Type 0 where
   pub first : 1 ≤ t
   pub last : t ≤ stages_in c.inputs
 
--- a p-value of a hypothesis may arrive: its stage is one of the case at which none of the hypothesis has arrived. It is from 0 to 1 with a
--- denominator of at most 10^30
+-- a p-value of a hypothesis may arrive: its stage is one of the case, and no p-value of the hypothesis has arrived at this stage. The p-value is from
+-- 0 to 1 with a denominator of at most 10^30
 pub record MayArrive (c : Content) (values : List Arrival) (a : Arrival) : Type 0 where
   pub below : a.hypothesis < length c.names
   pub stage : IsStage c a.stage
@@ -60,7 +60,7 @@ pub record IsFirstStageBy (spends : List Spend) (alpha : Ratio) (values : List A
   pub stage : arrival.stage ≡ t
   pub least : (a : Arrival) → MeetsAt (spend_at spends) (number_of alpha) values k weight a → t ≤ a.stage
 
--- the same by what a case says
+-- `t` is the least stage that has arrived at which `k` meets its level at a weight, by the spends and the level of the case `c`
 abbrev pub IsFirstStage : Content → List Arrival → ℕ → Number → ℕ → Type 0
 IsFirstStage c = IsFirstStageBy (spends_in c.inputs) c.alpha
 
@@ -82,7 +82,7 @@ abbrev pub AreRejections : Content → List Arrival → (ℕ → Bool) → List 
 AreRejections c values I [] = Unit {0}
 AreRejections c values I (r ∷ rs) = IsEarlierRejection c values I r × AreRejections c values (dropping r.hypothesis I) rs
 
--- arrivals one after another, each of which might come once these values had arrived
+-- arrivals one after another, each of which was allowed to arrive once these values and the arrivals before it had arrived
 abbrev pub AreArrivals : Content → List Arrival → List Arrival → Type 0
 AreArrivals c values [] = Unit {0}
 AreArrivals c values (a ∷ more) = MayArrive c values a × AreArrivals c (values ++ a ∷ []) more

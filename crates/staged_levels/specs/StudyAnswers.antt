@@ -24,7 +24,7 @@ IsStaged (Staged s) = Unit {0}
 IsStaged Bare = ⊥
 IsStaged (Single ps) = ⊥
 
--- the call that an event is
+-- an event as a call
 abbrev pub call_of : Event → StudyCall
 call_of (Arrive i t p) = arrive (record { hypothesis = i; stage = t; p = p })
 call_of (Reject i) = reject i
@@ -34,11 +34,11 @@ abbrev pub hypothesis_of : Event → ℕ
 hypothesis_of (Arrive i t p) = i
 hypothesis_of (Reject i) = i
 
--- the first operation of the removal of a hypothesis, after those that are rejected, that is undefined
+-- after the removals of the rejected hypotheses, the removal of a hypothesis is undefined first at this operation
 abbrev pub IsWideRemoval : Content → StudyState → ℕ → WideAt → Type 0
 IsWideRemoval c s k w = case_after c (positions_of s.rejected ++ k ∷ []) ≡ Err w
 
--- why an arrival is refused: the first test that finds something
+-- why an arrival is refused: the first cause that holds
 abbrev pub IsArriveFault : Content → StudyState → Arrival → StepFault → Type 0
 IsArriveFault c s a (StageRange t) = (t ≡ a.stage) × ¬ IsStage c a.stage
 IsArriveFault c s a (Known i t) = (i ≡ a.hypothesis) × (t ≡ a.stage) × IsStage c a.stage × IsKnown s.values a.hypothesis a.stage
@@ -47,7 +47,7 @@ IsArriveFault c s a (Rejected i) = ⊥
 IsArriveFault c s a (NotLegal i) = ⊥
 IsArriveFault c s a (Wide w) = ⊥
 
--- why a rejection is refused: the first test that finds something
+-- why a rejection is refused: the first cause that holds
 abbrev pub IsRejectFault : Content → StudyState → ℕ → StepFault → Type 0
 IsRejectFault c s k (Rejected i) = (i ≡ k) × IsListed (positions_of s.rejected) k
 IsRejectFault c s k (NotLegal i) = (i ≡ k) × ¬ IsListed (positions_of s.rejected) k × ¬ IsLegalNow c s k

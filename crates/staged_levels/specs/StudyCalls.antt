@@ -9,13 +9,13 @@ use Rattle.staged_levels.specs.Studies.{StudyState, start, remaining, MayArrive,
 
 -- ---- one call
 
--- a p-value arrives: it is put last, and the rejections stay
+-- a p-value arrives: it is appended to the values, and the rejections stay
 pub record IsArrival (c : Content) (old : StudyState) (a : Arrival) (new : StudyState) : Type 0 where
   pub may : MayArrive c old.values a
   pub values : new.values ≡ old.values ++ a ∷ []
   pub rejected : new.rejected ≡ old.rejected
 
--- `k` is rejected: it is legal, it is put last with its stage and its weight, and the values stay
+-- `k` is rejected: it is legal, it is appended to the rejections with its stage and its weight, and the values stay
 pub record IsRejection (c : Content) (old : StudyState) (k : ℕ) (new : StudyState) : Type 0 where
   pub legal : IsLegalNow c old k
   pub line : Settled
@@ -36,7 +36,7 @@ pub record Settles (c : Content) (old new : StudyState) : Type 0 where
   pub rejections : AreFirstRejections c old hypotheses new
   pub settled : IsSettled c new
 
--- what is called
+-- a call on a study
 pub data StudyCall : Type 0 where
   arrive : Arrival → StudyCall
   reject : ℕ → StudyCall

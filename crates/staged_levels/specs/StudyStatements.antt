@@ -12,7 +12,7 @@ use Rattle.staged_levels.specs.Studies.{StudyState, positions_of, IsStudyOf, IsS
 use Rattle.staged_levels.specs.Looks.{arrivals_of, rejected_in, AreLooks}
 use Rattle.staged_levels.specs.StudyCalls.{Answered, Settles, AreCalls, AreCallsFromOpening, arrivals_in}
 
--- Calls on a study of a case leave a study of it, whatever they ask for and whatever they answer.
+-- Whatever calls are made on a study of a case, and whatever they return, they leave a study of the case.
 abbrev pub CallsLeaveStudies : Type 0
 CallsLeaveStudies = (c : Content) (old new : StudyState) (es : List Answered) → IsStudyOf c old → AreCalls c old es new → IsStudyOf c new
 
@@ -34,7 +34,7 @@ abbrev pub StudiesRejectByTheStagedTest : Type 0
 StudiesRejectByTheStagedTest = (c : Content) (s : StudyState) (j : ℕ) → IsStudyOf c s
     → IsListed (positions_of s.rejected) j → IsStagedRejectedIn c s.values j
 
--- Once a study is settled, they are exactly those that it rejects.
+-- Once a study is settled, its rejections are exactly those of the staged closed test on these values.
 abbrev pub SettledStudiesDecide : Type 0
 SettledStudiesDecide = (c : Content) (s : StudyState) (j : ℕ) → IsStudyOf c s → IsSettled c s
     → IsListed (positions_of s.rejected) j ↔ IsStagedRejectedIn c s.values j
@@ -55,7 +55,7 @@ SettlingDecides =
     (c : Content) (es : List Answered) (s : StudyState) (j : ℕ) → AreCallsFromOpening c es s → IsSettled c s
     → IsListed (positions_of s.rejected) j ↔ IsStagedRejectedIn c (arrivals_in es) j
 
--- What is rejected in the looks at a case is exactly what the staged closed test rejects on the p-values that arrived.
+-- The looks at a case reject exactly the hypotheses that the staged closed test rejects on the p-values that arrived.
 abbrev pub LooksDecide : Type 0
 LooksDecide =
     (c : Content) (looks : List (List Settled)) (j : ℕ) → IsValidContent c → AreLooks c looks

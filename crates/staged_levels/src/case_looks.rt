@@ -20,7 +20,7 @@ use std::alloc::Global;
 pub enum LooksFault {
     /// The first operation of the opening that is undefined.
     Opening(WideAt),
-    /// The first operation that is undefined of a settling, and the arrival before it, counted from 1.
+    /// The first operation of a settling that is undefined, and the number of the arrival before that settling, from 1.
     Arriving(usize, WideAt),
     /// Out of memory.
     NoMemory,
@@ -62,7 +62,7 @@ fn arrivals_of(case: &Case) -> &[Arrival]
     }
 }
 
-/// Puts a p-value, which may arrive, with the others.
+/// Appends a p-value, which may arrive, to those that have arrived.
 fn arrive(current: &mut Study, arrival: &Arrival)
     requires below { arrival.now.hypothesis < size_of (study current.old) }
     requires may { (c : Content) → IsStudy c (study current.old) → MayArrive c (study current.old).looks.values arrival.now }
@@ -85,7 +85,7 @@ pub fn behind(settled: &[Settled], n: usize) -> &[Settled]
     &settled[n..]
 }
 
-/// Returns the look at an arrival, of this number, that may come: the rejections that it brings.
+/// Returns the rejections that the arrival with this number, which may come, brings; or the fault of the settling after it.
 fn look(
     alloc: Global,
     current: &mut Study,
@@ -111,11 +111,11 @@ fn look(
     Ok(added)
 }
 
-/// Returns the rejections that each arrival of a case brings, whose p-values are those of stages. The arrivals come in their
+/// Returns the rejections that each arrival brings, of a case whose p-values are those of stages. The arrivals come in their
 /// order. After each, the first hypothesis that is legal is rejected, until none is legal.
 ///
-/// Unless out of memory, it is `LooksFault::Opening` exactly if the written opening is undefined, and `LooksFault::Arriving`
-/// exactly if it is defined and some removal isn't, at the first such arrival.
+/// Unless out of memory, the call is refused with `LooksFault::Opening` exactly if the written opening is undefined. It is refused
+/// with `LooksFault::Arriving` exactly if the opening is defined and some removal isn't, at the first such arrival.
 pub fn looks(alloc: Global, case: &Case) -> Result<List<List<Settled>>, LooksFault>
     requires { IsStaged (content case.now).inputs }
     ensures looks { IfOk result (AreLooks (content case.now)) }

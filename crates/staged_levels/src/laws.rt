@@ -28,12 +28,12 @@ pub fn settled_studies_decide()
     ensures calls { SettlingDecides }
 {}
 
-/// What is rejected in the looks at a case is exactly what the staged closed test rejects on the p-values that arrived.
+/// The looks at a case reject exactly the hypotheses that the staged closed test rejects on the p-values that arrived.
 pub fn looks_decide()
     ensures { LooksDecide }
 {}
 
-/// The values are those of the accepted arrivals, and no call takes a rejection back.
+/// The values of a study are those of the accepted arrivals, and no call takes a rejection back.
 pub fn calls_take_nothing_back()
     ensures values { ValuesAreAccepted }
     ensures rejections { RejectionsStay }

@@ -35,7 +35,7 @@ pub struct Study {
     ghost room: { length spends ≤ vec_capacity settled },
 }
 
-/// Whether the p-values of a case are those of stages, as studies ask.
+/// Whether the p-values of a case are those of stages, as studies require.
 pub fn is_staged(case: &Case) -> bool
     ensures { IsTrue result ↔ IsStaged (content case.now).inputs }
 {
@@ -55,7 +55,7 @@ fn stages_of(case: &Case) -> &Stages
     }
 }
 
-/// Returns the same as this number of hypotheses spend at stages, or `NoMemory`.
+/// Returns copies of what the `size` hypotheses spend at stages, or `NoMemory`.
 fn copied(alloc: Global, stages: &Stages, size: usize) -> Result<List<Spend>, NoMemory>
     requires { length stages.now.spend ≡ size }
     ensures { IfOk result (λ spends. spends ≡ stages.now.spend) }
@@ -85,11 +85,11 @@ impl Study {
     ghost use Rattle.staged_levels.specs.StudyContents.{IsStudy, size_of};
     ghost use Rattle.staged_levels.specs.StudyView.{study};
 
-    /// Opens a case whose p-values are those of stages. Nothing has arrived yet, the arrivals of the case neither, and nothing
-    /// is rejected.
+    /// Opens a case whose p-values are those of stages. Nothing has arrived yet, not even the arrivals of the case, and nothing is
+    /// rejected.
     ///
-    /// Unless out of memory, it is `OpenFault::Wide` exactly if the written opening is undefined. All memory that a study needs
-    /// is taken here.
+    /// Unless out of memory, the call is refused with `OpenFault::Wide` exactly if the written opening is undefined. All memory that
+    /// a study needs is taken here.
     pub fn open(alloc: Global, case: &Case) -> Result<Study, OpenFault>
         requires { IsStaged (content case.now).inputs }
         ensures study { IfOk result (λ s. IsStudy (content case.now) (study s)) }
@@ -119,8 +119,8 @@ impl Study {
         self.spends.len()
     }
 
-    /// Returns the rejections in their order, each with the least arrived stage that met the test at its moment, and
-    /// its weight then.
+    /// Returns the rejections in their order, each with its weight at its moment, and the least arrived stage that met the test
+    /// then.
     ///
     /// The staged closed test on the values that have arrived rejects each of them, and no other once none is legal.
     pub fn settled(&self) -> &[Settled]
@@ -257,7 +257,7 @@ impl Study {
     ghost use Rattle.staged_levels.specs.StudyContents.{IsStudy, size_of, MayRejectAt, IsNextStudy};
     ghost use Rattle.staged_levels.specs.StudyView.{study};
 
-    /// Puts the p-value of an arrival with the others.
+    /// Appends the p-value of an arrival to those that have arrived, unless it is refused.
     fn arrive(&mut self, arrival: Arrival) -> Result<(), StepFault>
         requires { arrival.hypothesis < size_of (study self.old) }
         ensures study { (c : Content) → IsStudy c (study self.old) → IsStudy c (study self.new) }
@@ -280,8 +280,8 @@ impl Study {
         Ok(())
     }
 
-    /// Removes `k`, which may be rejected at this stage. It is `WideAt` exactly if the written removal is undefined; nothing is
-    /// changed then.
+    /// Removes `k`, which may be rejected at this stage. It is refused with `WideAt` exactly if the written removal is undefined;
+    /// nothing is changed then.
     fn remove(&mut self, k: usize, stage: usize) -> Result<(), WideAt>
         requires { MayRejectAt (study self.old) k stage }
         ensures next { OnOk result (IsNextStudy (study self.old) k stage (study self.new)) }
@@ -321,12 +321,17 @@ impl Study {
         }
     }
 
-    /// Lets a p-value arrive, or rejects a hypothesis, whose position is below the size.
+    /// Lets a p-value arrive, or rejects a hypothesis, whose position is below the size. A refusal changes nothing.
     ///
-    /// An arrival is refused by the first of these. Its stage isn't one of the case (`StageRange`). A p-value of the hypothesis
-    /// has arrived at it (`Known`). The p-value isn't from 0 to 1 with a denominator of at most 10^30 (`PRange`). One for a
-    /// hypothesis that is rejected is kept. A rejection is refused if the hypothesis was rejected before (`Rejected`), if it
-    /// isn't legal (`NotLegal`), and if its removal is undefined (`Wide`), tested in this order. A refusal changes nothing.
+    /// An arrival is refused for the first of these causes; one of a rejected hypothesis is not refused for that:
+    /// - `StageRange`: its stage isn't one of the case.
+    /// - `Known`: a p-value of the hypothesis has arrived at the stage.
+    /// - `PRange`: the p-value isn't from 0 to 1 with a denominator of at most 10^30.
+    ///
+    /// A rejection is refused for the first of these causes:
+    /// - `Rejected`: the hypothesis was rejected before.
+    /// - `NotLegal`: it isn't legal.
+    /// - `Wide`: its removal is undefined.
     pub fn step(&mut self, event: Event) -> Result<(), StepFault>
         requires { hypothesis_of event < size_of (study self.old) }
         ensures study { (c : Content) → IsStudy c (study self.old) → IsStudy c (study self.new) }
@@ -348,7 +353,8 @@ impl Study {
 
     /// Rejects the first hypothesis that is legal, until none is. The values that have arrived stay.
     ///
-    /// If the removal of the next one is undefined, it stops part way, and the rejections before it stay.
+    /// If the removal of the next hypothesis is undefined, the settling stops part way with its first undefined operation
+    /// (`SettleFault::Wide`), and the rejections before stay.
     pub fn settle(&mut self) -> Result<(), SettleFault>
         ensures study { (c : Content) → IsStudy c (study self.old) → IsStudy c (study self.new) }
         ensures call { (c : Content) → IsStudy c (study self.old)

@@ -16,7 +16,7 @@ abbrev pub arrivals_of : List Look → List Arrival
 arrivals_of ls = map arrival_of ls
 
 module _ (c : Content) where
-  -- a look is taken: its p-value arrives, and the study is settled; all that is written for that is defined
+  -- a look is taken: its p-value arrives, and the study is settled; all operations that are written for that are defined
   abbrev pub Takes : StudyState → Look → StudyState → Type 0
   Takes old l new = (added : List Settled) × IsLook c old (arrival_of l) added new
 

@@ -1,4 +1,4 @@
--- Why calls of a register are refused, and what they leave then.
+-- Why calls of a register are refused, and what is left of the study after a refusal.
 use Rattle.std.specs.Prelude.{◌≡◌, ◌≤◌, ◌+◌, ◌⊎◌, ℕ, Bool, true, false, IfSome, List, [], ◌∷◌, length, Option, Result, Ok, Err}
 use Rattle.field_core.specs.declared.place.WideAt.{WideAt}
 use Rattle.graph_io.specs.declared.keeper.Look.{Look}
@@ -17,7 +17,7 @@ use Rattle.study_register.specs.declared.taking.TakeFault.{TakeFault}
 use Rattle.study_register.specs.declared.taking.TakeFault.TheVariants as takings
 use Rattle.study_register.specs.Looking.{arrival_of, Takes}
 
--- some looks, and all that are kept if the keeper exposes them
+-- some looks satisfy `P`; if the keeper exposes its looks, they are these
 abbrev pub OnLooks : Option (List Look) → (List Look → Type 0) → Type 0
 OnLooks kept P = (looks : List Look) × P looks × IfSome kept (λ told. told ≡ looks)
 
@@ -26,14 +26,14 @@ module _ (c : Content) where
   abbrev pub IsBadLook : StudyState → Look → Type 0
   IsBadLook s l = (length c.names ≤ l.hypothesis) ⊎ ((f : StepFault) × IsArriveFault c s (arrival_of l) f)
 
-  -- the look at a place can't be taken: it is bad, or what is written for it is undefined
+  -- the look at a place can't be taken: it is bad, or an operation that is written for it is undefined
   abbrev pub IsStopAt : StudyState → ℕ → Look → RegisterFault → Type 0
   IsStopAt s place l (BadLook n bad) = (n ≡ place) × (bad ≡ l) × IsBadLook s l
   IsStopAt s place l (Wide n w) = (n ≡ place) × IsWideLook c s (arrival_of l) w
   IsStopAt s place l Fault = ⊥
   IsStopAt s place l NoMemory = ⊥
 
-  -- of looks, the first at this place, those before the first that can't be taken are taken
+  -- one of these looks, of which the first is at this place, can't be taken, and those before it are taken
   abbrev pub IsFirstStop : StudyState → ℕ → List Look → RegisterFault → Type 0
   IsFirstStop old place [] why = ⊥
   IsFirstStop old place (l ∷ ls) why =
@@ -44,7 +44,7 @@ module _ (c : Content) where
     pub opened : IsDefined c start
     pub first : IsFirstStop start 1 looks why
 
-  -- why a register isn't opened, if a keeper holds looks and its count of faults rose or didn't
+  -- why a register isn't opened, given the looks that a keeper holds and whether its count of faults rose
   abbrev pub IsRegisterFault : Option (List Look) → Type 0 → RegisterFault → Type 0
   IsRegisterFault kept rose (BadLook n l) = OnLooks kept (λ looks. IsStopped looks (BadLook n l))
   IsRegisterFault kept rose (Wide n w) = ((n ≡ 0) × (case_opening c ≡ Err w)) ⊎ OnLooks kept (λ looks. IsStopped looks (Wide n w))
@@ -72,7 +72,7 @@ module _ (c : Content) where
     pub rejections : AreFirstRejections c arrived rejected new
     pub wide : IsWideSettling c new w
 
-  -- what is left of a study that doesn't take a look: it stays if the arrival is refused
+  -- what is left of a study that doesn't take a look: the study stays as it was if the arrival is refused
   abbrev pub LeavesUntaken : StudyState → Look → StudyState → TakeFault → Type 0
   LeavesUntaken s l new (takings.Refused f) = new ≡ s
   LeavesUntaken s l new (takings.Wide w) = BreaksInto s l w new
@@ -84,47 +84,47 @@ module _ (c : Content) where
   Leaves s l new additions.Fault = Takes c s l new
   Leaves s l new additions.NoMemory = Takes c s l new
 
--- a fact if the keeper had no fault: the opening of the case or a look that is kept is refused, or memory was exhausted
+-- the fact `p`, unless the keeper had a fault: the opening of the case or a look of the keeper was refused, or the call is out of memory
 abbrev pub IfLooksRefused : Type 0 → RegisterFault → Type 0
 IfLooksRefused p (BadLook n l) = p
 IfLooksRefused p (Wide n w) = p
 IfLooksRefused p Fault = Unit {0}
 IfLooksRefused p NoMemory = p
 
--- a fact if the fault comes only after the keeper was asked
+-- the fact `p`, if this fault comes only after the keeper was called
 abbrev pub IfAsked : Type 0 → RegisterFault → Type 0
 IfAsked p (BadLook n l) = p
 IfAsked p (Wide n w) = Unit {0}
 IfAsked p Fault = p
 IfAsked p NoMemory = Unit {0}
 
--- a fact if the arrival was refused
+-- the fact `p`, if the arrival was refused
 abbrev pub IfNotTaken : Type 0 → TakeFault → Type 0
 IfNotTaken p (takings.Refused f) = p
 IfNotTaken p (takings.Wide w) = Unit {0}
 
--- a fact if the arrival was refused
+-- the fact `p`, if the arrival was refused
 abbrev pub IfRefused : Type 0 → AddFault → Type 0
 IfRefused p (additions.Refused f) = p
 IfRefused p (additions.Wide w) = Unit {0}
 IfRefused p additions.Fault = Unit {0}
 IfRefused p additions.NoMemory = Unit {0}
 
--- a fact if the keeper wasn't asked
+-- the fact `p`, if the keeper wasn't called
 abbrev pub IfNotAsked : Type 0 → AddFault → Type 0
 IfNotAsked p (additions.Refused f) = p
 IfNotAsked p (additions.Wide w) = p
 IfNotAsked p additions.Fault = Unit {0}
 IfNotAsked p additions.NoMemory = Unit {0}
 
--- a fact when out of memory
+-- the fact `p`, if the keeper was out of memory
 abbrev pub IfMemory : Type 0 → AddFault → Type 0
 IfMemory p (additions.Refused f) = Unit {0}
 IfMemory p (additions.Wide w) = Unit {0}
 IfMemory p additions.Fault = Unit {0}
 IfMemory p additions.NoMemory = p
 
--- how many calls of the keeper an addition makes that is refused: none, unless the look can be taken
+-- how many calls of the keeper a refused addition makes: none, unless the look can be taken
 abbrev pub turns_by : AddFault → ℕ
 turns_by (additions.Refused f) = 0
 turns_by (additions.Wide w) = 0

@@ -17,13 +17,13 @@ use Rattle.study_register.specs.Looking.{arrival_of, arrivals_of, Takes, AreTake
 use Rattle.study_register.specs.RegisterFaults.{IsBadLook, IsStopped}
 use Rattle.study_register.specs.Replying.{Replied, looks_taken, AreReplies}
 
--- One look more.
+-- If looks are taken, and then one look more, these looks and that one are taken.
 abbrev pub OneMoreIsTaken : Type 0
 OneMoreIsTaken =
     (c : Content) (looks : List Look) (old new : StudyState) (l : Look) → AreTaken c looks old → Takes c old l new
     → AreTaken c (looks ++ l ∷ []) new
 
--- Whatever looks are requested after those that were taken: the state is that of the old ones and of those that were taken also.
+-- Whatever looks are requested after looks that were taken, the state is that of the earlier looks and of the requested ones that were taken.
 abbrev pub RepliesAreTaken : Type 0
 RepliesAreTaken =
     (c : Content) (looks : List Look) (old new : StudyState) (rs : List Replied) → AreTaken c looks old → AreReplies c old rs new
@@ -45,15 +45,15 @@ OrdersOfLooksAgree =
 abbrev pub ReopeningsAgree : Type 0
 ReopeningsAgree = (c : Content) (looks : List Look) (s t : StudyState) → AreTaken c looks s → AreTaken c looks t → s ≡ t
 
--- Looks that are taken have none that can't be taken.
+-- If looks are taken, none of them is the first that can't be taken.
 abbrev pub TakenLooksAreNotStopped : Type 0
 TakenLooksAreNotStopped = (c : Content) (looks : List Look) (s : StudyState) (why : RegisterFault) → AreTaken c looks s → ¬ IsStopped c looks why
 
--- Looks have one first at most that can't be taken, for one reason.
+-- Of looks at most one is the first that can't be taken, for one reason.
 abbrev pub StopsAreUnique : Type 0
 StopsAreUnique = (c : Content) (looks : List Look) (f g : RegisterFault) → IsStopped c looks f → IsStopped c looks g → f ≡ g
 
--- If the opening of the case is undefined, it is so at one place, and no looks are taken and none is the first that can't be.
+-- The opening of the case is undefined at one place only, no looks are taken, and none is the first that can't be taken.
 pub record IsNotOpened (c : Content) (w : WideAt) : Type 0 where
   pub unique : (v : WideAt) → case_opening c ≡ Err v → v ≡ w
   pub taken : (looks : List Look) (s : StudyState) → ¬ AreTaken c looks s
@@ -62,7 +62,7 @@ pub record IsNotOpened (c : Content) (w : WideAt) : Type 0 where
 abbrev pub WideOpeningsTakeNothing : Type 0
 WideOpeningsTakeNothing = (c : Content) (w : WideAt) → case_opening c ≡ Err w → IsNotOpened c w
 
--- With whatever looks a valid case is opened: they are taken, or one of them is the first that can't be, or the opening of the case is undefined.
+-- With whatever looks a valid case is opened, they are taken, or one of them is the first that can't be taken, or the opening of the case is undefined.
 abbrev pub EachOpeningEnds : Type 0
 EachOpeningEnds =
     (c : Content) (looks : List Look) → IsValidContent c

@@ -1,4 +1,4 @@
--- Registers as contracts see them, and what becomes of the faults of what they call.
+-- Registers as contracts see them, and the faults of openings and of keepers as faults of a register.
 use Rattle.std.specs.Prelude.{Bool}
 use Rattle.graph_io.specs.declared.keeper.KeeperFault.{KeeperFault}
 use Rattle.graph_io.specs.declared.keeper.KeeperFault.TheVariants as keepers
@@ -21,21 +21,21 @@ study_in r = study r.study
 abbrev pub looks_in : Register → StudyState
 looks_in r = (study_in r).looks
 
--- an addition stopped part way
+-- whether an addition stopped part way
 abbrev pub is_spent : Register → Bool
 is_spent r = r.spent
 
--- the opening of the case is at the place 0
+-- a fault of the opening of the case, which is at the place 0
 abbrev pub of_opening : OpenFault → RegisterFault
 of_opening (openings.Wide w) = registers.Wide 0 w
 of_opening openings.NoMemory = registers.NoMemory
 
--- a fault of the loading
+-- a fault of the keeper when it loads its looks
 abbrev pub of_loading : KeeperFault → RegisterFault
 of_loading keepers.Fault = registers.Fault
 of_loading keepers.NoMemory = registers.NoMemory
 
--- a fault of the appending
+-- a fault of the keeper when it appends a look
 abbrev pub of_appending : KeeperFault → AddFault
 of_appending keepers.Fault = additions.Fault
 of_appending keepers.NoMemory = additions.NoMemory

@@ -21,7 +21,7 @@ looks_taken [] = []
 looks_taken (r ∷ rs) = look_in r.look r.taken ++ looks_taken rs
 
 module _ (c : Content) where
-  -- one reply
+  -- the reply to one look: the look is taken, or the study stays as it was
   abbrev pub IsReply : StudyState → Look → Bool → StudyState → Type 0
   IsReply old l true new = Takes c old l new
   IsReply old l false new = new ≡ old

@@ -9,7 +9,7 @@ use staged_levels::StepFault;
 pub enum RegisterFault {
     /// The first look that names no hypothesis of the case or is refused, and its place, counted from 1.
     BadLook(usize, Look),
-    /// The first operation that is undefined, of the opening of the case, at 0, or of the settling after the look at this place.
+    /// The first undefined operation: at 0 of the opening of the case, and else of the settling after the look at this place.
     Wide(usize, WideAt),
     /// The keeper failed, and counted it.
     Fault,

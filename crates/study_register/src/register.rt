@@ -29,7 +29,7 @@ use graph_io::{Keeper, Look};
 use staged_levels::{Settled, Study};
 use std::alloc::Global;
 
-/// A study all of whose looks are kept by a keeper, settled after each of them.
+/// A study that is settled after each of its looks, all of which a keeper keeps.
 #[derive(Drop)]
 pub struct Register {
     study: Study,
@@ -49,12 +49,14 @@ impl Register {
     /// Opens a case whose p-values are those of stages, and takes all looks of a keeper in their order: each arrives, and then the
     /// study is settled. The arrivals of the case itself don't count. The looks of the keeper stay.
     ///
-    /// Faults, unless out of memory or the keeper fails. It is `RegisterFault::Wide` at 0 exactly if the written opening is
-    /// undefined. Else the first look that can't be taken is named. It is `RegisterFault::BadLook` exactly if that look names
-    /// no hypothesis of the case or its arrival is refused. It is `RegisterFault::Wide` exactly if its settling stops part way.
-    /// Places count from 1. It is `RegisterFault::Fault` only if the case was opened and the keeper's count of faults rose in
-    /// this call; with each other answer that count stays. The keeper is called once at most, and once if the register is opened,
-    /// a look can't be taken for its arrival, or the keeper fails.
+    /// Faults, unless out of memory or the keeper fails; places count from 1:
+    /// - `RegisterFault::Wide` at 0 exactly if the written opening is undefined. Else the first look that can't be taken is named.
+    /// - `RegisterFault::BadLook` exactly if that look names no hypothesis of the case, or its arrival is refused.
+    /// - `RegisterFault::Wide` at its place exactly if its settling stops part way.
+    ///
+    /// It is `RegisterFault::Fault` only if the case was opened and the keeper's count of faults rose in this call; with each other
+    /// answer that count stays. The keeper is called once at most; and once if the register is opened, a look can't be taken because
+    /// of its arrival, or the keeper fails.
     pub fn open<K: Keeper>(
         alloc: Global,
         case: &Case,
@@ -124,14 +126,16 @@ impl Register {
         self.study.settled()
     }
 
-    /// Lets a look of a hypothesis of the case arrive, settles the study, and only then puts the look after those of
-    /// the keeper. The register isn't spent.
+    /// Lets a look of a hypothesis of the case arrive, settles the study, and only then has the keeper append the look. The register
+    /// must not be spent. The keeper is called once at most.
     ///
-    /// It is `AddFault::Refused` exactly if the arrival is refused, and then all is unchanged. It is `AddFault::Wide` exactly
-    /// if the settling stops part way. It is `AddFault::Fault` only if the look was taken and the keeper's count of faults
-    /// rose in this call. It is `AddFault::NoMemory` if the keeper has no memory for it, and that count stays. After these three
-    /// the looks of the keeper are unchanged, and the register is spent. After `Wide` the look has arrived, and the rejections
-    /// before the undefined one stay. After the other two the look is taken. The keeper is called once at most.
+    /// - `AddFault::Refused` exactly if the arrival is refused. Nothing changes.
+    /// - `AddFault::Wide` exactly if the settling stops part way. The look has arrived, and the rejections before the undefined one
+    ///   stay.
+    /// - `AddFault::Fault` only if the look was taken and the keeper's count of faults rose in this call. The look is taken.
+    /// - `AddFault::NoMemory` if the keeper has no memory for the look. The look is taken, and the keeper's count of faults stays.
+    ///
+    /// After the last three the looks of the keeper are unchanged, and the register is spent.
     pub fn add<K: Keeper>(
         &mut self,
         alloc: Global,

@@ -16,7 +16,7 @@ use staged_levels::{Event, SettleFault, StepFault, Study};
 /// Why a study doesn't take a look.
 #[derive(Clone, Copy)]
 pub(crate) enum TakeFault {
-    /// Its arrival is refused.
+    /// The arrival of the look is refused.
     Refused(StepFault),
     /// The settling stops part way.
     Wide(WideAt),
@@ -34,7 +34,7 @@ fn event_of(look: &Look) -> Event
 }
 
 /// Lets a look of a hypothesis of the case arrive, and settles the study. A refused arrival changes nothing. If the settling
-/// stops part way, the look has arrived, and the rejections before that stay.
+/// stops part way, the look has arrived, and the rejections before the undefined one stay.
 pub(crate) fn take(current: &mut Study, look: &Look) -> Result<(), TakeFault>
     requires { look.now.hypothesis < size_of (study current.old) }
     ensures study { (c : Content) → IsStudy c (study current.old) → IsStudy c (study current.new) }
@@ -56,7 +56,7 @@ pub(crate) fn take(current: &mut Study, look: &Look) -> Result<(), TakeFault>
     }
 }
 
-/// Takes the look at a place, which may be bad.
+/// Takes the look at a place, or refuses it if it names no hypothesis or can't be taken.
 fn take_kept(current: &mut Study, place: usize, look: &Look) -> Result<(), RegisterFault>
     ensures study { (c : Content) → IsStudy c (study current.old) → IsStudy c (study current.new) }
     ensures taken { OnOk result ((c : Content) → IsStudy c (study current.old)

@@ -21,12 +21,12 @@ abbrev pub IsCounted : ℕ → ℕ → FileFault → KeeperFault → Type 0
 IsCounted before now Refused told = (told ≡ Fault) × (now ≡ count_up before)
 IsCounted before now files.NoMemory told = (told ≡ NoMemory) × (now ≡ before)
 
--- what holds if a fault is reported; memory may run out at any time
+-- the fact `P`, if a fault is reported; out of memory may occur at any time
 abbrev pub OnFault : Type 0 → KeeperFault → Type 0
 OnFault P Fault = P
 OnFault P NoMemory = ⊤
 
--- what holds if out of memory is reported
+-- the fact `P`, if out of memory is reported
 abbrev pub OnNoMemory : Type 0 → KeeperFault → Type 0
 OnNoMemory P Fault = ⊤
 OnNoMemory P NoMemory = P

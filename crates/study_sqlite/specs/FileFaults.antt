@@ -1,4 +1,4 @@
--- What errors of statements and bad rows are to a file of looks.
+-- Errors of statements and bad rows, as faults of a file of looks.
 use Rattle.std.specs.Prelude.{⊤}
 use Rattle.sqlite.specs.declared.error.Error.{Error}
 use Rattle.sqlite.specs.declared.error.Error.TheVariants.{SqliteFailure}
@@ -13,17 +13,17 @@ abbrev pub fault_of_error : Error → FileFault
 fault_of_error (SqliteFailure OutOfMemory) = files.NoMemory
 fault_of_error error = files.Refused
 
--- the same of rows
+-- a bad row refuses the file; out of memory is reported apart
 abbrev pub fault_of_rows : RowsFault → FileFault
 fault_of_rows (rows.Bad place) = files.Refused
 fault_of_rows rows.NoMemory = files.NoMemory
 
--- what holds if a file was refused; memory may run out at any time
+-- the fact `P`, if a file was refused; out of memory may occur at any time
 abbrev pub OnRefusal : Type 0 → FileFault → Type 0
 OnRefusal P files.Refused = P
 OnRefusal P files.NoMemory = ⊤
 
--- what holds when out of memory
+-- the fact `P`, when out of memory
 abbrev pub OnMemory : Type 0 → FileFault → Type 0
 OnMemory P files.Refused = ⊤
 OnMemory P files.NoMemory = P

@@ -21,7 +21,7 @@ LooksHaveOneRow =
 abbrev pub RowsAreReadOneWay : Type 0
 RowsAreReadOneWay = (rows : List LookRow) (first second : List Look) → AreRows rows first → AreRows rows second → first ≡ second
 
--- there is one first bad row
+-- rows have at most one first bad row
 abbrev pub RowsHaveOneFault : Type 0
 RowsHaveOneFault = (rows : List LookRow) (first second : ℕ) → IsFirstBad rows first → IsFirstBad rows second → first ≡ second
 

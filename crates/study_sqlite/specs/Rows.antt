@@ -16,7 +16,7 @@ pub record IsRow (hypothesis stage : ℤ) (p : List ℕ) (look : Look) : Type 0 
   pub stage_size : look.stage < 2 ^ 32
   pub p_is : p ≡ spelling (terms look.p)
 
--- the same of a row with its three values
+-- the three values of a row are the row of a look
 abbrev pub IsRowOf : LookRow → Look → Type 0
 IsRowOf row look = IsRow row.hypothesis row.stage row.p look
 

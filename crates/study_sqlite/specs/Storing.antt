@@ -36,15 +36,15 @@ abbrev pub IsOpenedFrom : Storage → Storage → Type 0
 IsOpenedFrom (Opened connection) now = now ≡ Opened connection
 IsOpenedFrom (Unopened rt path) now = IsOpened now
 
--- The looks are those of the file, by its connection before and after. The one before is that of an open file, or one that an opening gave. No clause
--- says what its path is.
+-- The looks are those of the file, by its connection before and after. The connection before is that of an open file, or one that an opening gave; no
+-- clause says what the path of this file is.
 abbrev pub AreLoaded : Storage → Storage → List Look → Type 0
 AreLoaded old new looks =
     (before : _) × (after : _) × IsOpenedFrom old (Opened before) × (new ≡ Opened after)
     × (HasCleanDisk (file_state after) → HasCleanDisk (file_state before))
     × (HasCleanDisk (file_state after) → AreKept over_files before after looks)
 
--- the looks of the file were put after others
+-- the looks of the file were appended to others
 abbrev pub IsLoaded : Storage → Storage → List Look → List Look → Type 0
 IsLoaded old new others all = (looks : List Look) × (all ≡ others ++ looks) × AreLoaded old new looks
 
@@ -55,7 +55,7 @@ IsAppended old new look =
     × (HasCleanDisk (file_state after) → HasCleanDisk (file_state before))
     × (HasCleanDisk (file_state after) → IsPut over_files before after look)
 
--- the file wasn't open and isn't: its opening failed, of which no clause says when and why it does
+-- the file wasn't open and isn't: its opening failed; no clause says when or why that happens
 abbrev pub IsNotOpened : Storage → Storage → Type 0
 IsNotOpened (Opened connection) now = ⊥
 IsNotOpened (Unopened rt path) now = now ≡ Unopened rt path
@@ -103,13 +103,13 @@ IsCloseRefused {D} {g} connection =
     (last : FileStore D g) × (error : Error) × (fault_of_error error ≡ Refused) × files.IsClosed connection last
     × (IsClean (view last) → FailsToClose connection last error)
 
--- of a file that was never opened nothing is left, and of one that was its two files, with the last commit in the database file
+-- nothing is left of a file that was never opened; an opened one leaves its two files, with the last commit in the database file
 abbrev pub IsClosed : Storage → Closed → Type 0
 IsClosed (Unopened rt path) left = left ≡ closed.Unopened
 IsClosed (Opened connection) closed.Unopened = ⊥
 IsClosed (Opened connection) (closed.Files left) = IsCopiedTo connection left
 
--- a file that was never opened is closed without an error, and one that was is refused only for an error of its connection's close
+-- a file that was never opened is closed without an error; the close of an opened one is refused only for an error of its connection's close
 abbrev pub IsCloseFault : Storage → FileFault → Type 0
 IsCloseFault (Unopened rt path) fault = ⊥
 IsCloseFault (Opened connection) fault = OnRefusal (IsCloseRefused connection) fault

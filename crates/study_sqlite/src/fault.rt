@@ -22,7 +22,7 @@ impl From<NoMemory> for RowsFault {
     }
 }
 
-/// Why a file wasn't opened, gave no looks, or took none.
+/// Why a file wasn't opened, returned no looks, or took no look.
 #[derive(Clone, Copy, PartialEq, Eq, Debug)]
 pub enum FileFault {
     /// The file, a statement or a row was refused.

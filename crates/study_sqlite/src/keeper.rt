@@ -8,8 +8,8 @@ use field_core::List;
 use graph_io::{CallCount, Keeper, KeeperFault, Look};
 use std::alloc::Global;
 
-/// Looks in a file. They aren't reported. Each call is counted. One that meets a refused statement, or a row that is not the row
-/// of a look, is counted as a fault also.
+/// A keeper of looks in a file. It doesn't expose its looks to contracts. Each call is counted; one that meets a refused statement,
+/// or a row that is not the row of a look, is also counted as a fault.
 #[derive(Drop)]
 pub struct SqliteKeeper {
     storage: Storage,
@@ -36,8 +36,8 @@ impl SqliteKeeper {
         }
     }
 
-    /// Returns a keeper over the file at this path. The first call opens it, and makes it if it isn't there; until then nothing
-    /// is read of it or written to it.
+    /// Returns a keeper over the file at this path. The first call opens the file, and makes it if it isn't there; until then
+    /// nothing is read from it or written to it.
     pub fn at(rt: &HostRuntime, path: String) -> SqliteKeeper
         ensures storage { storage_of result ≡ Unopened rt.now path }
         ensures faults { fault_count result ≡ 0 }
@@ -50,9 +50,9 @@ impl SqliteKeeper {
         }
     }
 
-    /// Copies what the log beside the file holds into the file, if it was opened, and gives both back; they are closed when
-    /// they are let go. The last commit is in the file then, without the log and also after a crash, as long as the disk
-    /// returned what was written. If that is refused, the log still holds it, and the next opening finds it there.
+    /// Copies what the log beside the file holds into the file, if the file was opened, and gives both back; they are closed when
+    /// they are dropped. The last commit is in the file then, without the log and also after a crash, as long as the disk
+    /// returned what was written. If the copying is refused, the log still holds the commit, and the next opening finds it there.
     pub fn close(self) -> Result<Closed, FileFault>
         ensures closed { IfOk result (IsClosed (storage_of self)) }
         ensures why { IfErr result (IsCloseFault (storage_of self)) }
@@ -60,7 +60,7 @@ impl SqliteKeeper {
         self.storage.close()
     }
 
-    /// Counts a fault of the file, unless memory was exhausted.
+    /// Counts a fault of the file, unless it is out of memory, and returns the fault of the keeper.
     fn counted(&mut self, fault: FileFault) -> KeeperFault
         ensures counted { IsCounted (fault_count self.old) (fault_count self.new) fault result }
         ensures storage { storage_of self.new ≡ storage_of self.old }
@@ -89,8 +89,12 @@ impl Keeper for SqliteKeeper {
 
     ghost counted = { λ k. k.in_range };
 
-    /// Appends the looks of the file to a list. A fault is reported only if the file isn't open then, a statement gave an
-    /// error, or the file showed a row that is not the row of a look. This holds as long as the disk returned what was written.
+    /// Appends the looks of the file to a list.
+    ///
+    /// As long as the disk returned what was written, a fault is reported only in these cases:
+    /// - the file isn't open then;
+    /// - a statement gave an error;
+    /// - the file showed a row that is not the row of a look.
     fn load(&mut self, alloc: Global, into: &mut List<Look>) -> Result<(), KeeperFault>
         ensures loaded { OnOk result (Loads None into.old into.new) }
         ensures unchanged { OnErr result (into.new ≡ into.old) }
@@ -108,8 +112,8 @@ impl Keeper for SqliteKeeper {
         Ok(())
     }
 
-    /// Puts a look into the file. A fault is reported only if the file isn't open then or a statement gave an error, as long as
-    /// the disk returned what was written.
+    /// Puts a look into the file. As long as the disk returned what was written, a fault is reported only if the file isn't open
+    /// then or a statement gave an error.
     fn append(&mut self, alloc: Global, look: &Look) -> Result<(), KeeperFault>
         ensures cause { IsCaused (fault_count self.old) (fault_count self.new) result }
         ensures turn { call_count self.new ≡ call_count self.old + 1 }

@@ -11,8 +11,7 @@ use graph_io::Look;
 use sqlite::{Alter, Connection};
 use std::alloc::Global;
 
-/// Returns the looks of all rows. They are refused only if a statement gives an error, or for a row that is not the row of a
-/// look.
+/// Returns the looks of all rows. It is refused only if a statement gives an error, or for a row that is not the row of a look.
 pub fn looks_in<S: Alter>(
     alloc: Global,
     connection: &mut Connection<S>,

@@ -1,4 +1,4 @@
-//! Laws of rows.
+//! Laws of rows and of the looks that they denote.
 ghost use Rattle.study_sqlite.specs.RowStatements.{
   RowsSayOneLook,
   LooksHaveOneRow,

@@ -4,30 +4,33 @@
 //! - `to_row`: `row` (the row of the look, `IsRow`). `from_row`: `found`, `only`, `other` (a look exactly if the three values
 //!   are the row of one, and that look).
 //! - `read_rows`: `read` (the looks of the rows, in their order), `fault` (the first row that is not the row of a look).
-//! - Statements of `table`, over any connection, by what it showed before and after and as long as the disk returned what was
-//!   written. `make` and `put` ran `make_sql` and `put_sql` with the values of the row, or report the error that it gave
-//!   (`made`, `ran`, `why`). `rows` are the rows of the answer to `rows_sql`, in its order (`shown`). They are refused only if
-//!   that gave an error or showed a row that is not the row of a look (`why`). What the statements do to a table is the meaning
-//!   that the crate `sqlite` gives their texts (`Executes`, `Shown`, `FailsToQuery`).
+//! - Statements of `table`, over any connection, by what the connection showed before and after, as long as the disk returned what
+//!   was written. `make` and `put` ran `make_sql` and `put_sql` with the values of the row, or report the error that the statement
+//!   gave (`made`, `ran`, `why`). `rows` returns the rows of the answer to `rows_sql`, in its order (`shown`). It is refused only
+//!   if that statement gave an error or showed a row that is not the row of a look (`why`). What the statements do to a table is
+//!   the meaning that the crate `sqlite` gives their texts (`Executes`, `Shown`, `FailsToQuery`).
 //! - `looks_in` and `keep_in` of `kept`: the table is made, and then all rows are shown and read, or the row of the look is put
 //!   there (`kept`, `put`). They are refused only if one of the two statements was, or for a row that is not the row of a look
 //!   (`why`).
-//! - `SqliteKeeper` is a `Keeper` that doesn't expose its looks. It counts its calls (`turn`). A fault comes only if its
-//!   count of faults rose, and else that count stays. A refused load leaves the list as it was. After a successful `load`,
-//!   the looks of all rows that the file showed follow the others (`looks`). After a successful `append`, the row of the
-//!   look was put into the file (`look`). Both report a fault only if the file isn't open then, or a statement gave an
-//!   error. `load` also reports one if the file showed a row that is not the row of a look (`why`). When out of memory, no
-//!   statement ran but those of the call. The one that puts a row did not run, or gave this error (`memory`, also of
-//!   `rows`, `looks_in` and `keep_in`). Each refusal by an open file is reported as a fault, and out of memory as such
-//!   (`counted`). One that is made `at` a path isn't open yet, and a `new` one is over its connection (`storage`). Its
-//!   `close` gives back the log and the database file of a connection, or reports an error of the connection's close
-//!   (`why`). The last commit is in the database file then, alone and also after a crash (`closed`). For a file that was
-//!   never opened there is neither.
 //! - Laws in `src/laws.rt`: rows and looks correspond one to one (`rows_and_looks_correspond`). Rows are read as looks in one
 //!   way, or have one first bad row, and not both (`rows_have_one_reading`).
 //!
-//! Only tested: that the file is the one at the path, and isn't opened before the first call. That nothing runs on it as it is
-//! opened. That its opening, and its close, are refused only if they have to be.
+//! Proved of `SqliteKeeper`, a `Keeper` that doesn't expose its looks:
+//! - It counts its calls (`turn`). A fault comes only if its count of faults rose, and else that count stays. Each refusal by an
+//!   open file is reported as a fault, and out of memory as such (`counted`).
+//! - After a successful `load`, the looks of all rows that the file showed follow those in the list (`looks`). A refused load leaves
+//!   the list as it was. After a successful `append`, the row of the look was put into the file (`look`).
+//! - Both report a fault only if the file isn't open then, or a statement gave an error. `load` also reports one if the file showed
+//!   a row that is not the row of a look (`why`).
+//! - When out of memory, no statement ran but those of the call. The one that puts a row did not run, or gave this error (`memory`,
+//!   also of `rows`, `looks_in` and `keep_in`).
+//! - A keeper that is made `at` a path isn't open yet, and a `new` one is over its connection (`storage`).
+//! - `close` gives back the log and the database file of a connection, or reports an error of the connection's close (`why`). The
+//!   last commit is in the database file then, alone and also after a crash (`closed`). For a file that was never opened `close`
+//!   gives back neither.
+//!
+//! Only tested: that the file is the one at the path, that it isn't opened before the first call, and that nothing runs on it as it
+//! is opened. Also that its opening and its close are refused only if they have to be.
 #![tactic(auto)]
 
 mod closed;

@@ -1,4 +1,4 @@
-//! Printed numbers and fractions, read back. Only the one text that is printed of a number is read.
+//! Printed numbers and fractions, read back. Only the one text that is printed for a number is read.
 ghost use Rattle.std.specs.Prelude.{◌≡◌, ℤ, ◌++◌, ◌∷◌, pos, Some, IfSome, IsTrue, ◌↔◌, FitsSigned, MatchOption};
 ghost use Rattle.std.specs.Int.{w128};
 ghost use Rattle.std.specs.Fmt.{signed_decimal};
@@ -13,7 +13,8 @@ use field_core::{Ratio, gcd};
 use itoa::Buffer;
 use std::str;
 
-/// Returns the fraction that is printed as this text: `n`, or `n/d` if the denominator isn't 1, in lowest terms.
+/// Returns the fraction that is printed as this text: `n`, or `n/d` if the denominator isn't 1, in lowest terms. Any other text
+/// gives nothing.
 pub fn printed_ratio(text: &[u8]) -> Option<Ratio>
     ensures found { IfSome result (λ x. text.now ≡ spelling (terms x)) }
     ensures only { (x : Ratio) → text.now ≡ spelling (terms x) → result ≡ Some x }
@@ -56,7 +57,7 @@ fn printed_denominator(text: &[u8]) -> Option<i128>
     if den == 1 { None } else { Some(den) }
 }
 
-/// Returns what is before the first slash, and after it if there is one.
+/// Returns what is before the first slash, and what is after it, if there is a slash.
 fn split_slash(text: &[u8]) -> (&[u8], Option<&[u8]>)
     ensures front { HasNoSlash result.0.now }
     ensures whole { MatchOption result.1 (text.now ≡ result.0.now) (λ under. text.now ≡ result.0.now ++ 47 ∷ under.now) }
@@ -67,7 +68,7 @@ fn split_slash(text: &[u8]) -> (&[u8], Option<&[u8]>)
     }
 }
 
-/// Returns the number that is printed as this text.
+/// Returns the number that is printed as this text, if there is one.
 fn printed_number(text: &[u8]) -> Option<i128>
     ensures found { IfSome result (λ n. text.now ≡ signed_decimal n) }
     ensures only { (n : ℤ) → FitsSigned w128 n → text.now ≡ signed_decimal n → result ≡ Some n }
@@ -80,7 +81,7 @@ fn printed_number(text: &[u8]) -> Option<i128>
     }
 }
 
-/// Returns the number that a text writes in any way, at least if it is printed so.
+/// Returns the number that a text denotes in some spelling. The clause states this only of a text that is printed for a number.
 fn parsed_number(text: &[u8]) -> Option<i128>
     ensures { (n : ℤ) → FitsSigned w128 n → text.now ≡ signed_decimal n → result ≡ Some n }
 {

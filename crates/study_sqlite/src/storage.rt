@@ -1,4 +1,4 @@
-//! Where looks are kept: at a path until they are requested, then over a connection.
+//! Where looks are kept: in the file at a path until it is first used, and then over a connection.
 ghost use Rattle.std.specs.Prelude.{IfOk, IfErr, OnOk, OnErr};
 ghost use Rattle.study_sqlite.specs.FileFaults.{OnRefusal, OnMemory};
 ghost use Rattle.study_sqlite.specs.Storing.{
@@ -24,13 +24,13 @@ use std::alloc::Global;
 /// A file of looks.
 #[derive(Drop)]
 pub enum Storage {
-    /// The file at this path, which nothing has requested yet.
+    /// The file at this path, which no call has used yet.
     Unopened(HostRuntime, String),
     Opened(FileConnection),
 }
 
 impl Storage {
-    /// Opens the file if it isn't open. If that is refused, it stays unopened.
+    /// Opens the file if it isn't open. If the opening is refused, the storage stays unopened.
     fn open(&mut self) -> Result<(), FileFault>
         ensures opened { OnOk result (IsOpenedFrom self.old self.new) }
         ensures why { OnErr result (IsNotOpened self.old self.new) }
@@ -42,8 +42,8 @@ impl Storage {
         Ok(())
     }
 
-    /// Returns the looks in the file, which is opened if it isn't open. They are refused only if the opening is, if a statement
-    /// gives an error, or for a row that is not the row of a look.
+    /// Returns the looks in the file, which is opened if it isn't open. It is refused only if the opening is, if a statement gives
+    /// an error, or for a row that is not the row of a look.
     pub fn looks(&mut self, alloc: Global) -> Result<List<Look>, FileFault>
         ensures loaded { IfOk result (AreLoaded self.old self.new) }
         ensures why { IfErr result (OnRefusal (IsLoadRefused self.old self.new)) }
@@ -70,7 +70,7 @@ impl Storage {
         }
     }
 
-    /// Copies the log into the file if it was opened, and gives both back; they are closed when they are let go.
+    /// Copies the log into the file, if the file was opened, and gives both back; they are closed when they are dropped.
     pub fn close(self) -> Result<Closed, FileFault>
         ensures closed { IfOk result (IsClosed self) }
         ensures why { IfErr result (IsCloseFault self) }

@@ -36,7 +36,8 @@ pub fn open(rt: &HostRuntime, path: &str) -> Result<FileConnection, FileFault>
     Ok(Connection::open(rt, path)?)
 }
 
-/// Makes the table if it isn't there.
+/// Makes the table if it isn't there. As long as the disk returned what was written, it is refused only if the statement gives
+/// an error.
 pub fn make<S: Alter>(connection: &mut Connection<S>) -> Result<(), FileFault>
     ensures clean { HasCleanDisk (state S.Store connection.new) → HasCleanDisk (state S.Store connection.old) }
     ensures made { HasCleanDisk (state S.Store connection.new)
@@ -51,7 +52,7 @@ pub fn make<S: Alter>(connection: &mut Connection<S>) -> Result<(), FileFault>
     Ok(())
 }
 
-/// Returns all rows, in the order in which they were put there. They are refused only if the query gives an error, or for a row
+/// Returns all rows, in the order in which they were put there. It is refused only if the query gives an error, or for a row
 /// that is not the row of a look.
 pub fn rows<S: Alter>(
     alloc: Global,
@@ -69,7 +70,7 @@ pub fn rows<S: Alter>(
     look_rows(alloc, found.as_slice())
 }
 
-/// Returns the values of each row of an answer. They are refused only for a row that is not the row of a look.
+/// Returns the values of each row of an answer. It is refused only for a row that is not the row of a look.
 fn look_rows(alloc: Global, answer: &[Row]) -> Result<List<LookRow>, FileFault>
     ensures shown { IfOk result (AllZip IsShownAs answer.now) }
     ensures why { IfErr result (OnRefusal ((shown : _) × Contains answer.now shown × ShowsNoLook shown)) }
@@ -96,7 +97,8 @@ fn look_row(alloc: Global, row: &Row) -> Result<LookRow, FileFault>
     })
 }
 
-/// Puts a row after the others.
+/// Puts a row after the others. As long as the disk returned what was written, it is refused only if the statement gives an
+/// error.
 pub fn put<S: Alter>(connection: &mut Connection<S>, row: &LookRow) -> Result<(), FileFault>
     requires { IsUtf8 row.now.p }
     ensures clean { HasCleanDisk (state S.Store connection.new) → HasCleanDisk (state S.Store connection.old) }
@@ -130,8 +132,8 @@ fn put_values<S: Alter>(
     )
 }
 
-/// Copies the log into the file, and gives both back; they are closed when they are let go. The last commit is
-/// in the file then, as long as the disk returned what was written.
+/// Copies the log into the file, and gives both back; they are closed when they are dropped. The last commit is in the file
+/// then, as long as the disk returned what was written. It is refused only for an error of the connection's close.
 pub fn close(connection: FileConnection) -> Result<Files<File>, FileFault>
     ensures copied { IfOk result (IsCopiedTo connection) }
     ensures why { IfErr result (OnRefusal (IsCloseRefused connection)) }

@@ -16,7 +16,7 @@ const OTHER: Given = (1, 1, (1, 50));
 
 const LATER: Given = (3, 2, (1, 50));
 
-/// Makes a new folder, whatever was there.
+/// Makes an empty folder, and removes first what was there.
 pub fn new_folder(rt: &(impl Abort + Alloc + Files), folder: &str) {
     let _ = fs::remove_dir_all(rt, folder);
     fs::create_dir(rt, folder).expect(rt, folder);
@@ -58,7 +58,7 @@ fn put<K: Keeper>(alloc: Global, keeper: &mut K, looks: &[Look]) -> Result<(), K
     Ok(())
 }
 
-/// Returns what a keeper of a file answers that is to put looks there, unless it can't be made or closed.
+/// Puts looks into a file through a keeper of its own, and returns the keeper's answer, unless it can't be made or closed.
 fn put_at(rt: &HostRuntime, path: &str, given: &[Given]) -> Option<Result<(), KeeperFault>> {
     let looks = looks_of(rt.alloc(), given)?;
     let mut keeper = keeper_at(rt, path)?;
@@ -67,7 +67,8 @@ fn put_at(rt: &HostRuntime, path: &str, given: &[Given]) -> Option<Result<(), Ke
     Some(kept)
 }
 
-/// Returns what a keeper of a file answers that is to load its looks after others, unless it can't be made or closed.
+/// Appends the looks of a file to others through a keeper of its own, and returns the keeper's answer, unless it can't be made
+/// or closed.
 fn load_at(
     rt: &HostRuntime,
     path: &str,
@@ -79,7 +80,7 @@ fn load_at(
     Some(loaded)
 }
 
-/// Whether a list of one look has these after a file was loaded.
+/// Whether a list of one look becomes this list when the looks of a file are appended to it.
 fn holds(rt: &HostRuntime, path: &str, given: &[Given]) -> Option<bool> {
     let wanted = looks_of(rt.alloc(), given)?;
     let mut looks = looks_of(rt.alloc(), &[BEFORE])?;
@@ -87,7 +88,7 @@ fn holds(rt: &HostRuntime, path: &str, given: &[Given]) -> Option<bool> {
     Some(loaded.is_ok() && looks.as_slice() == wanted.as_slice())
 }
 
-/// Whether a file is refused, so that a list of one look stays as it was.
+/// Whether the looks of a file are refused with a fault, and a list of one look gets no further look.
 fn is_refused(rt: &HostRuntime, path: &str) -> Option<bool> {
     let mut looks = looks_of(rt.alloc(), &[BEFORE])?;
     let loaded = load_at(rt, path, &mut looks)?;
@@ -153,7 +154,7 @@ fn a_file_is_made_at_the_first_call(rt: HostRuntime) {
     remove_folder(&rt, "made_test");
 }
 
-/// Whether a file is refused while it is open, and a log beside it holds its looks. Closing puts them into the file.
+/// Whether a file is refused while it is open, a log beside it holds its looks then, and closing puts them into the file.
 #[test]
 fn a_closed_file_holds_its_looks(rt: HostRuntime) {
     let path = "closed_test/looks.db";
@@ -172,8 +173,8 @@ fn a_closed_file_holds_its_looks(rt: HostRuntime) {
     remove_folder(&rt, "closed_test");
 }
 
-/// Returns the looks from one place of a hundred to another, of ten hypotheses at ten stages, in an order that is
-/// neither of them.
+/// Returns the looks at the places `from..to` of a hundred looks, of ten hypotheses at ten stages, ordered neither by hypothesis
+/// nor by stage.
 fn mixed(alloc: Global, from: u32, to: u32) -> Option<List<Given>> {
     let mut mixed = List::new(alloc);
     for at in from..to {
@@ -203,7 +204,7 @@ fn two_runs_keep_what_one_keeps_in_memory(rt: HostRuntime) {
     remove_folder(&rt, "mixed_test");
 }
 
-/// Makes a file in which one row has these values, as SQL writes them.
+/// Makes a file with one row of these values, as SQL writes them.
 fn write_row(rt: &HostRuntime, path: &str, values: &str) -> Option<()> {
     let statement = format!(in rt.alloc();
         "INSERT INTO looks (hypothesis, stage, p) VALUES ({values})"
@@ -217,13 +218,13 @@ fn write_row(rt: &HostRuntime, path: &str, values: &str) -> Option<()> {
     Some(())
 }
 
-/// Whether a file of one row is refused, which has these values.
+/// Whether a file with one row of these values is refused.
 fn refuses(rt: &HostRuntime, path: &str, values: &str) -> Option<bool> {
     write_row(rt, path, values)?;
     is_refused(rt, path)
 }
 
-/// Values of other kinds.
+/// Values of other types than those of a row.
 const KINDS: &[&str] = &["0, 'abc', '1/50'", "0, 1.5, '1/50'", "0, 1, x'312F3530'"];
 
 #[test]
@@ -236,7 +237,7 @@ fn rows_of_other_kinds_are_faults(rt: HostRuntime) {
     remove_folder(&rt, "kinds_test");
 }
 
-/// Values of no look.
+/// Values that are not those of a look.
 const OTHERS: &[&str] = &["0, 1, '2/100'", "-1, 1, '1/50'"];
 
 #[test]

@@ -1,8 +1,8 @@
-//! Tests of what is said: sources, sinks and keepers, the words of a call, the lines of refusals and the texts of
-//! reports, with each line by hand.
+//! Tests of sources, sinks and keepers, of the words of a call, of the lines of refusals and of the texts of reports, with each
+//! line by hand.
 //!
 //! Also tests of looks that are kept in files: their rows, a keeper over files that the tests make, and runs of a study over one
-//! file. Tests of the whole program over a file and a store in memory.
+//! file. The whole program is tested over a file and a store in memory.
 #![tactic(auto)]
 
 #[cfg(test)]

@@ -8,7 +8,7 @@ use program::{NotOpened, Opener, run_program};
 use std::alloc::Global;
 use std::process::ExitCode;
 
-/// One file and one store, whatever their paths, and a line for each thing that was requested.
+/// An opener of one file and one store, whatever their paths, with a line for each request.
 #[derive(Drop)]
 struct Shelf {
     alloc: Global,
@@ -27,7 +27,7 @@ fn copy_of<T: Copy>(alloc: Global, items: &[T]) -> Result<List<T>, NoMemory>
     Ok(copy)
 }
 
-/// Puts a line with a path after the others.
+/// Appends a line with a word and a path to the others.
 fn note(asked: &mut List<u8>, word: &[u8], path: &str) -> Result<(), NoMemory> {
     asked.append(word)?;
     asked.append(path.as_bytes())?;
@@ -83,7 +83,7 @@ impl Opener for Shelf {
     }
 }
 
-/// A call and what it is to do: the status, the text, what is requested, and how many looks are kept then.
+/// A call and its expected end: the status, the text, the requests, and how many looks are kept then.
 #[derive(Clone, Copy)]
 struct Row<'a> {
     words: &'a [&'a str],
@@ -115,14 +115,14 @@ fn shelf_of(alloc: Global, row: &Row) -> Option<Shelf> {
     })
 }
 
-/// Whether an exit code is that of a status, by what both print, since codes have no equality; nothing when out of memory.
+/// Whether an exit code is that of a status; `None` if out of memory. Codes have no equality, so their printed forms are compared.
 fn has_status(alloc: Global, code: ExitCode, status: u8) -> Option<bool> {
     let ended = format!(in alloc; "{code:?}").ok()?;
     let wanted = format!(in alloc; "{:?}", ExitCode::from(status)).ok()?;
     Some(ended.as_str() == wanted.as_str())
 }
 
-/// Whether a call does what its row says, unless out of memory.
+/// Whether a call ends as its row expects; `None` if out of memory.
 fn is_done(alloc: Global, row: &Row) -> Option<bool> {
     let words = words_of(alloc, row.words)?;
     let mut shelf = shelf_of(alloc, row)?;
@@ -149,7 +149,7 @@ fn a_study_opens_its_commands_and_its_store(rt: HostRuntime) {
     assert!(rt; is_done(rt.alloc(), &row) == Some(true));
 }
 
-/// Whether a study without a store opens its commands alone.
+/// Whether a study without a store opens only its commands.
 #[test]
 fn a_study_without_a_store_opens_its_commands(rt: HostRuntime) {
     let row = Row {
@@ -216,7 +216,7 @@ fn commands_that_are_refused_are_a_read_fault(rt: HostRuntime) {
     assert!(rt; is_done(rt.alloc(), &row) == Some(true));
 }
 
-/// Whether such commands of a study with a store are reported so too, and no look is kept.
+/// Whether commands that can't be opened are a fault of the reading in a study with a store, too, and no look is kept.
 #[test]
 fn no_look_of_commands_that_are_refused_is_kept(rt: HostRuntime) {
     let row = Row {

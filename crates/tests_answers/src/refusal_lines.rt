@@ -123,7 +123,7 @@ const PAST_LIMITS: &[(CaseFault, &str)] = &[
     (CaseFault::TooManySteps(1, 33), "limit: spend steps 33\n"),
 ];
 
-/// Past the third name a place stands for the name.
+/// Past the third name, a hypothesis is named by its place.
 const PARTS: &[(PartPlace, &str)] = &[
     (PartPlace::Alpha, "limit: case: part alpha\n"),
     (PartPlace::Share(1), "limit: case: part share component 2\n"),
@@ -262,7 +262,7 @@ const BEGINNINGS: &[(When, &str)] = &[
     ),
 ];
 
-/// Asserts that an answer is this status, and the two texts in turn.
+/// Asserts that an answer has the status 5, and that its line is the two texts in turn.
 fn expect_both(
     rt: &impl Abort,
     alloc: Global,
@@ -598,7 +598,7 @@ fn another_kind_of_inputs(rt: HostRuntime) -> Result<(), Fail> {
     Ok(())
 }
 
-/// Whether out of memory is not a fault of a case, and has no line.
+/// Whether out of memory is not reported as a fault of a case, and has no line.
 #[test]
 fn want_of_memory(rt: HostRuntime) -> Result<(), Fail> {
     let names = names(rt.alloc())?;

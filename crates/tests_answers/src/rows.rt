@@ -42,7 +42,8 @@ fn rows_and_looks_correspond(rt: HostRuntime) {
     }
 }
 
-/// Rows of no look: other spellings of a number, texts of none, numbers that no look has, and parts of 128 bits and more.
+/// Rows that are not those of a look: other spellings of a number, texts that are not numbers, numbers that no look has, and
+/// parts of 128 bits and more.
 const OTHERS: &[Columns] = &[
     (0, 1, "2/100"),
     (0, 1, "0.02"),
@@ -90,7 +91,7 @@ fn rows_of(alloc: Global, columns: &[Columns]) -> Option<List<LookRow>> {
     Some(rows)
 }
 
-/// Returns what is read of these columns: the looks, or the place of the first row that is of no look.
+/// Returns what is read from these columns: the looks, or the place of the first row that is not the row of a look.
 fn read(alloc: Global, columns: &[Columns]) -> Option<Result<List<Look>, RowsFault>> {
     let rows = rows_of(alloc, columns)?;
     Some(read_rows(alloc, rows.as_slice()))

@@ -93,7 +93,7 @@ fn a_second_run_begins_with_the_looks_of_the_first(rt: HostRuntime) {
     remove_folder(&rt, "runs_test");
 }
 
-/// Commands of which none is reached.
+/// Commands, none of which is reached.
 const OTHER_ROW: &[u8] = b"look H1 1 0.02
 show
 ";

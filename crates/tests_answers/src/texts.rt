@@ -33,7 +33,7 @@ struct Row {
     text: &'static str,
 }
 
-/// All are rejected, not in their order.
+/// All hypotheses are rejected, in another order than their own.
 const ALL_REJECTED: Row = Row {
     alpha: (1, 40),
     hypotheses: &[("H1", (1, 100)), ("H2", (1, 200)), ("H3", (1, 50))],
@@ -75,7 +75,7 @@ const ONE_OF_TWO: Row = Row {
         end\n",
 };
 
-/// The one that is kept stands between the others.
+/// The retained hypothesis is between the others.
 const THREE_OF_FOUR: Row = Row {
     alpha: (1, 20),
     hypotheses: &[
@@ -126,7 +126,7 @@ const TWO_KEPT: Row = Row {
         end\n",
 };
 
-/// From the last to the first.
+/// Eleven hypotheses are rejected, from the last to the first.
 const ELEVEN_STEPS: Row = Row {
     alpha: (1, 1),
     hypotheses: &[
@@ -234,7 +234,7 @@ fn p_values(alloc: Global, hypotheses: &[(&str, Terms)]) -> Result<List<Option<F
     Ok(p_values)
 }
 
-/// Weights of 0, of this number.
+/// Returns this number of weights of 0.
 fn no_weights(alloc: Global, count: usize) -> Result<List<Fraction>, NoMemory> {
     let mut weights = List::new(alloc);
     for _ in 0..count {
@@ -323,7 +323,7 @@ fn decisions(rt: HostRuntime) -> Result<(), Fail> {
     Ok(())
 }
 
-/// Evidence for a case of three hypotheses, whether it holds or not, and what is printed of it where it does.
+/// Evidence for a case of three hypotheses, whether it holds or not, and what is printed of it if it holds.
 const EVIDENCE: &[(&str, &str)] = &[
     ("evidence 1\nend\n", "yes\nlisted\nend\n"),
     (

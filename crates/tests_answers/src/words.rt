@@ -1,4 +1,4 @@
-//! What words ask for, with the values that they give.
+//! What words request, with the values that they give.
 use command_words::{CaseFormat, CaseTask, Command, read_study, read_words};
 use field_core::NoMemory;
 use sequential::Priority;
@@ -6,7 +6,7 @@ use std::alloc::Global;
 use std::process::Abort;
 use std::test::Fail;
 
-/// What words ask for of a case: the task, and the level where they give one.
+/// What words request for a case: the task, and the level if they give one.
 type Wanted = Option<(CaseTask, Option<(i128, i128)>)>;
 
 /// Returns these words, as the program is given them.
@@ -18,7 +18,7 @@ fn words_of(alloc: Global, words: &[&str]) -> Result<Vec<String>, NoMemory> {
     Ok(copies)
 }
 
-/// Returns the task, and the parts of the level where the case is a sheet.
+/// Returns the task on a case, and the parts of the level if the case is a sheet.
 fn on_case(command: &Command) -> Wanted {
     match command {
         Command::OnCase(CaseFormat::Csv(alpha), task) => {
@@ -32,7 +32,7 @@ fn on_case(command: &Command) -> Wanted {
     }
 }
 
-/// Holds these words to what they ask for.
+/// Asserts that these words are accepted, and request this for a case.
 fn expect(rt: &impl Abort, alloc: Global, words: &[&str], wanted: Wanted) -> Result<(), NoMemory> {
     let words = words_of(alloc, words)?;
     match read_words(words.as_slice()) {
@@ -162,10 +162,11 @@ fn samples_have_sizes_and_seeds(rt: HostRuntime) -> Result<(), Fail> {
     Ok(())
 }
 
-/// What words ask a study for: whether its case is JSON, the place of the file of its commands, and the path of its looks.
+/// What words request of a study: whether its case is JSON, the place of the word that names the file of its commands, and the
+/// path of its looks.
 type Study<'a> = (bool, usize, Option<&'a str>);
 
-/// Holds these words to what they ask a study for, or to the word at which the reading fails.
+/// Asserts what these words request of a study, or the number of the word at which the reading fails.
 fn expect_study(
     rt: &impl Abort,
     alloc: Global,

@@ -1,4 +1,4 @@
-//! Drafts that make cases, in lines (`said.rt`).
+//! Drafts that make cases, in lines (`lines.rt`).
 
 /// Drafts that make cases, and whether those are plain.
 pub const ACCEPTED: &[(&str, bool)] = &[
@@ -148,7 +148,7 @@ pub const STAGED: &[&str] = &[
      spend H2 1/2 1/2
      arrive H1 1 1/50
      arrive H2 1 3/250",
-    // Sums that just reach their bounds, each step by itself.
+    // Sums that exactly reach their bounds, each step by itself.
     "stages 2
      table H1
      step H1 1/3 0 1/60

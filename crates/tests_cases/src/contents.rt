@@ -1,4 +1,4 @@
-//! What cases hold: exactly what their drafts say.
+//! The contents of cases: exactly what their drafts hold.
 ghost use Rattle.std.specs.Prelude.{◌≡◌, length};
 
 use crate::lines::entry;
@@ -43,7 +43,7 @@ fn expect_component(rt: &impl Abort, case: &Case, c: usize, draft: &DraftCompone
     expect_edges(rt, case, c, draft.edges.as_slice());
 }
 
-/// Returns the whole table of edges, row by row, which has what is read edge by edge.
+/// Asserts that the whole table of edges, row by row, holds what is read edge by edge, and the listed entries.
 fn expect_edges(rt: &impl Abort, case: &Case, c: usize, edges: &[DraftEdge]) {
     let size = case.size();
     assert!(rt; c < case.components());
@@ -56,7 +56,7 @@ fn expect_edges(rt: &impl Abort, case: &Case, c: usize, edges: &[DraftEdge]) {
     }
 }
 
-/// Returns the entry of the edge with these ends, 0 where it isn't listed.
+/// Returns the entry of the edge with these ends, 0 if it isn't listed.
 fn listed(rt: &impl Abort, edges: &[DraftEdge], from: usize, to: usize) -> Entry {
     for edge in edges {
         if edge.from == from && edge.to == to {
@@ -92,7 +92,7 @@ fn expect_p_values(rt: &impl Abort, found: &[Fraction], p: &[Option<Fraction>]) 
 
 // ---- stages
 
-/// Asserts that a case has the stages, and copies of what is spent.
+/// Asserts that a case has the stages of a draft, and that a copy of what each hypothesis spends equals it.
 fn expect_stages(rt: &(impl Abort + AllocGlobal), size: usize, found: &Stages, draft: &DraftStages)
     requires { length found.now.spend ≡ size }
 {

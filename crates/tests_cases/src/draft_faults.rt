@@ -1,4 +1,4 @@
-//! Drafts with faults, in lines (`said.rt`).
+//! Drafts with faults, in lines (`lines.rt`).
 //!
 //! The denominators 10^18, 10^18 - 1 and 10^18 - 3 have no common factors. Their product is near 10^54, so that the sum
 //! of 1 over the first two can be written, near 10^-18, and that of 1 over all three can't. 167 and 173 are primes that
@@ -11,14 +11,14 @@ use field_core::{Op, Place, WideAt};
 pub const TWO: &str = "hypotheses H1 H2
                        component A 1/2 1/2 1/2";
 
-/// The same without their component.
+/// The hypotheses of `TWO` without their component.
 pub const BARE_TWO: &str = "hypotheses H1 H2";
 
 /// Four hypotheses without edges and p-values.
 pub const FOUR: &str = "hypotheses H1 H2 H3 H4
                         component A 1/8 1/4 1/4 1/4 1/4";
 
-/// The same without their component.
+/// The hypotheses of `FOUR` without their component.
 pub const BARE_FOUR: &str = "hypotheses H1 H2 H3 H4";
 
 const WIDE_SHARES: CaseFault = CaseFault::Wide(WideAt {
@@ -51,7 +51,7 @@ const LATER_WIDE_ROW: CaseFault = CaseFault::Wide(WideAt {
     op: Op::Add,
 });
 
-/// Names. The component has two weights, so that where there aren't two names a later row applies too.
+/// Names. The component has two weights, so that a later row of the table of faults applies too if there aren't two names.
 pub const NAMES: &[(&[&str], CaseFault)] = &[
     (&[], CaseFault::NoHypothesis),
     (&[""], CaseFault::NameForm(0)),

@@ -20,7 +20,7 @@ fn finish(rt: &(impl Abort + AllocGlobal), draft: Draft) -> Result<Case, Refused
 
 // ---- refused drafts
 
-/// Returns the fault for which a draft is refused. Its names are handed back.
+/// Returns the fault for which a draft is refused, and asserts that the names of the draft are handed back.
 fn fault(rt: &(impl Abort + AllocGlobal), draft: Draft, names: &[Text]) -> CaseFault {
     let refused = finish(rt, draft).err().expect(rt, "accepted");
     expect_names(rt, refused.names.as_slice(), names);
@@ -34,7 +34,7 @@ fn expect_names(rt: &impl Abort, found: &[Text], wanted: &[Text]) {
     }
 }
 
-/// Asserts that the drafts of the first lines and those of a row are refused.
+/// Asserts that each draft, of the first lines and those of a row, is refused for the fault of the row.
 fn expect_refused(rt: &(impl Abort + AllocGlobal), first: &str, rows: &[(&str, CaseFault)]) {
     for row in rows {
         let (text, wanted) = row;
@@ -78,7 +78,7 @@ fn names_are_refused(rt: HostRuntime) {
 
 // ---- cases
 
-/// Returns the case that lines say has exactly what they say.
+/// Returns the case that lines denote, and asserts that it holds exactly what they denote.
 fn made(rt: &(impl Abort + AllocGlobal), first: &str, text: &str) -> Case {
     let case = finish(rt, draft(rt, first, text)).ok().expect(rt, text);
     expect_case(rt, &case, &draft(rt, first, text));

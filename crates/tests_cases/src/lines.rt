@@ -1,16 +1,16 @@
-//! Drafts that are said in lines.
+//! Drafts that are written in lines.
 //!
-//! | Line | Says |
+//! | Line | Content |
 //! |---|---|
 //! | `hypotheses NAME..` | the names |
-//! | `alpha N` | the level, 1/20 where no line says it |
+//! | `alpha N` | the level, 1/20 if there is no such line |
 //! | `p N..` | the p-values, `-` for one that is missing |
 //! | `component LABEL N N..` | a component: its share and its weights |
-//! | `edge LABEL NAME NAME N..` | an edge of it: the coefficients by ascending power of epsilon, 0 after the last |
+//! | `edge LABEL NAME NAME N..` | an edge of this component: the coefficients by ascending power of epsilon, 0 after the last |
 //! | `stages N` | how many stages there are |
 //! | `spend NAME N..` | what a hypothesis spends: fractions of the level |
-//! | `table NAME`, `table NAME N` | or a table, which has each of its steps once, or so often |
-//! | `step NAME N N..` | a step of it: the weight from which it counts, and its levels |
+//! | `table NAME`, `table NAME N` | or a table, which has each of its steps once, or N times |
+//! | `step NAME N N..` | a step of this table: the weight from which it counts, and its levels |
 //! | `arrive NAME N N` | a p-value that arrived: its stage, and its value |
 use crate::rows::fraction;
 use case_model::{Arrival, Draft, DraftComponent, DraftEdge, DraftStages, Entry, Spend, SpendStep};
@@ -231,7 +231,7 @@ fn arrivals(rt: &(impl Abort + AllocGlobal), text: &[u8], names: &[Text]) -> Lis
 
 // ---- drafts
 
-/// Returns the draft that the lines of two texts say, one after another.
+/// Returns the draft that the lines of two texts denote, those of `first` followed by those of `more`.
 pub fn draft(rt: &(impl Abort + AllocGlobal), first: &str, more: &str) -> Draft {
     let mut text = List::new(rt.alloc());
     text.append(first.as_bytes()).expect(rt, "no memory");

@@ -32,7 +32,7 @@ fn an_entry_has_its_coefficients(rt: HostRuntime) {
     }
 }
 
-/// Returns a weight and an edge of the same number, through the trait.
+/// Returns a weight and an edge as numbers of one type, through the trait.
 fn both<F: CaseNumber>(weight: &Fraction, edge: &Entry) -> Result<(F, F), TooWide> {
     Ok((F::weight(weight), F::edge(edge)?))
 }

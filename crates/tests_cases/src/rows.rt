@@ -1,4 +1,4 @@
-//! How the rows of a table are tried.
+//! How the rows of a table are tested.
 use fraction::Fraction;
 use std::fmt::Debug;
 use std::process::Abort;

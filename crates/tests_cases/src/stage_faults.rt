@@ -1,4 +1,4 @@
-//! Stages that are refused, and levels that are met, in lines (`said.rt`).
+//! Stages that are refused, and levels that are met, in lines (`lines.rt`).
 //!
 //! The denominators of ten fractions are primes near 10,000: the product of nine is below 2^127, that of all is above.
 use crate::rows::Terms;
@@ -11,7 +11,7 @@ const WIDE_SECOND: CaseFault = CaseFault::Wide(WideAt {
     op: Op::Add,
 });
 
-/// Stages of `TWO`: each row of the table of faults with one that follows it where both are at fault.
+/// Stages of `TWO` with a fault of each row of the table of faults, and where both can be, with a fault of a later row too.
 pub const STAGES: &[(&str, CaseFault)] = &[
     // Long parts: fractions, then steps, then p-values; before all else.
     (
@@ -327,10 +327,10 @@ pub const STAGES: &[(&str, CaseFault)] = &[
 /// Half of the level at each of two stages.
 const EVEN: &str = "spend H1 1/2 1/2";
 
-/// All of it at the second.
+/// All of the level at the second stage.
 const LATER: &str = "spend H1 0 1";
 
-/// The least fraction of it at the first.
+/// The least fraction of the level at the first stage.
 const LITTLE: &str = "spend H1 1/10000 1";
 
 /// At two stages, levels that sum to 1/40 from the weight 1/2 on, and to 1/20 from the weight 1 on.

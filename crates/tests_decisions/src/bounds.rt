@@ -1,4 +1,4 @@
-//! Bounds over tables that say yes of some sets.
+//! Bounds over tables whose answer is yes for some sets.
 use crate::cases::{expect, fits};
 use case_model::SetTable;
 use discovery_bound::Bounds;
@@ -6,7 +6,8 @@ use field_core::NoMemory;
 use std::alloc::Global;
 use std::process::Abort;
 
-/// What is rejected, the number of hypotheses, the sets that the table says yes of, and sets with their bounds.
+/// A label of the sets that are rejected, the number of hypotheses, these sets, for which the table answers yes, and sets with
+/// their bounds.
 struct Row<'a> {
     label: &'a str,
     size: usize,
@@ -15,7 +16,7 @@ struct Row<'a> {
 }
 
 const ROWS: &[Row] = &[
-    // No closed test says so: {0, 1} and {0, 2} are kept.
+    // The closed test by weights has no such answers, since {0, 1} and {0, 2} aren't rejected.
     Row {
         label: "{1, 2} and {0, 1, 2} alone",
         size: 3,
@@ -36,7 +37,7 @@ const ROWS: &[Row] = &[
         rejected: &[1],
         bounds: &[(3, 0), (2, 0), (1, 1)],
     },
-    // All but the last are kept together.
+    // The set of all but the last isn't rejected.
     Row {
         label: "of sixteen, all, and all but one that isn't the last",
         size: 16,

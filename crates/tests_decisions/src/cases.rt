@@ -1,4 +1,4 @@
-//! Cases that texts say, the assertion with a label, and the test of a set.
+//! Cases that texts denote, the assertion with a label, and the test of a set.
 ghost use Rattle.std.specs.Prelude.{◌<◌, ◌^◌, IsTrue};
 
 use case_model::Case;

@@ -192,7 +192,7 @@ const SETS_OF_TWO: &[u32] = &[3, 2, 0, 1];
 
 const SETS_OF_THREE: &[u32] = &[7, 6, 4, 0, 2, 5, 1, 3];
 
-/// Whether each set comes before those that leave out one more after its last.
+/// Whether each set comes before those that leave out one more hypothesis, after the last one that it leaves out.
 #[test]
 fn sets_come_in_order(rt: HostRuntime) {
     let (Ok(two), Ok(three)) = (sets_in_order(rt.alloc(), 2), sets_in_order(rt.alloc(), 3)) else {

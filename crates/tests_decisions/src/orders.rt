@@ -4,7 +4,7 @@ use sequential::{Trial, is_single};
 use std::process::Abort;
 use std::test::Fail;
 
-/// Asks for the rejection of each of these, once.
+/// Requests the rejection of each of these hypotheses once.
 fn ask(rt: &impl Abort, trial: &mut Trial, order: &[usize]) {
     for hypothesis in order {
         assert!(rt; *hypothesis < trial.size());
@@ -23,7 +23,7 @@ fn goes_on(rt: &impl Abort, trial: &Trial) -> bool {
     false
 }
 
-/// Asks again and again, until none can be rejected; a round that rejects nothing is the last.
+/// Requests all rejections again and again, until none can be rejected; a round that rejects nothing is the last.
 fn ask_all(rt: &impl Abort, trial: &mut Trial, order: &[usize]) {
     for _ in 0..trial.size() {
         if !goes_on(rt, trial) {

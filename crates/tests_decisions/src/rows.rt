@@ -35,7 +35,7 @@ const NAN: u64 = 0x7ff8_0000_0000_0000;
 /// Minus 0.5.
 const MINUS_HALF: u64 = 0xbfe0_0000_0000_0000;
 
-/// Holds a call on `HOLM`, with 9 in each byte before it, to its answer, its marks and its statuses.
+/// Tests a call on `HOLM`, in whose marks and statuses each byte is 9 before: its answer, its marks and its statuses.
 fn expect(
     rt: &impl Abort,
     alloc: Global,

@@ -25,7 +25,7 @@ const HALVES: &str = "alpha 0.05\n\
     p 0.04 0.05\n\
     weights 1/2 1/2\n";
 
-/// The same, and each passes its weight on to the other.
+/// The case `HALVES` with edges: each hypothesis passes its weight on to the other.
 const EXCHANGED: &str = "alpha 0.05\n\
     hypotheses H1 H2\n\
     p 0.04 0.05\n\
@@ -33,8 +33,8 @@ const EXCHANGED: &str = "alpha 0.05\n\
     edge H1 H2 1\n\
     edge H2 H1 1\n";
 
-/// Holm's graph. Hommel's procedure asks for the greatest i such that the k-th of the i greatest p-values is above k/i of the
-/// level, for each k up to i. There is none, so all are rejected. Holm's procedure rejects none.
+/// Holm's graph. Hommel's procedure takes the greatest i such that the k-th of the i greatest p-values is above k/i of the
+/// level, for each k up to i. Here no such i exists, so all are rejected, while Holm's procedure rejects none.
 const HOMMEL_ALL: &str = "alpha 0.05\n\
     hypotheses H1 H2 H3\n\
     p 0.02 0.04 0.045\n\
@@ -46,7 +46,8 @@ const HOMMEL_ALL: &str = "alpha 0.05\n\
     edge H3 H1 1/2\n\
     edge H3 H2 1/2\n";
 
-/// It is 2: what is at most half of the level is rejected, 0.02 alone. Holm's procedure rejects none.
+/// The i of Hommel's procedure is 2, so a p-value of at most half of the level is rejected, which is 0.02 alone. Holm's procedure
+/// rejects none.
 const HOMMEL_ONE: &str = "alpha 0.05\n\
     hypotheses H1 H2 H3\n\
     p 0.03 0.06 0.02\n\
@@ -58,7 +59,7 @@ const HOMMEL_ONE: &str = "alpha 0.05\n\
     edge H3 H1 1/2\n\
     edge H3 H2 1/2\n";
 
-/// There is none, with two equal p-values, which count for each other.
+/// No i of Hommel's procedure exists; two p-values are equal, and count for each other.
 const HOMMEL_TIE: &str = "alpha 0.05\n\
     hypotheses H1 H2 H3\n\
     p 0.03 0.03 0.05\n\
@@ -71,7 +72,7 @@ const HOMMEL_TIE: &str = "alpha 0.05\n\
     edge H3 H2 1/2\n";
 
 /// H1 passes epsilon on to H3 and the rest to H2, and H2 all to H3. In the set of H2 and H3 the weight of H2 is 1 in the limit,
-/// and that of H3 is 0. H3 has the least p-value, and its sum rejects nothing. That of H2 rejects. H1 alone keeps 1/2.
+/// and that of H3 is 0. H3 has the least p-value, and its sum rejects nothing, but that of H2 rejects. H1 alone keeps 1/2.
 const EPSILON: &str = "alpha 0.05\n\
     hypotheses H1 H2 H3\n\
     p 0.04 0.05 0.03\n\
@@ -158,7 +159,7 @@ fn simes_table(rt: &impl Abort, alloc: Global, case: &Case) -> Result<SimesTable
     SimesTable::build(alloc, case, &weights)
 }
 
-/// Returns the bounds over what a closed test says.
+/// Returns the bounds over the answers of a closed test.
 fn bounds_of(rt: &impl Abort, alloc: Global, closed: &SetTable) -> Bounds {
     let Ok(bounds) = Bounds::build(alloc, closed.size(), closed) else {
         panic!(rt; "no bounds");

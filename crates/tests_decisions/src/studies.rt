@@ -1,4 +1,4 @@
-//! Events of studies in any order: what each answers, and what it leaves.
+//! Events of studies in any order: the answer to each, and the state that it leaves.
 ghost use Rattle.std.specs.Prelude.{◌≡◌, IfOk};
 ghost use Rattle.staged_levels.specs.StudyAnswers.{hypothesis_of};
 
@@ -23,20 +23,20 @@ fn opened(rt: &impl Abort, alloc: Global, case: &Case) -> Study {
 const TWO: &str =
     "alpha 0.05\nhypotheses H1 H2 H3\nweights 1/2 1/2 0\nedge H1 H2 1\nedge H2 H1 1\nstages 2\nspend H1 1/2 1/2\nspend H2 1/2 1/2\nspend H3 1 0\narrive H2 1 0\n";
 
-/// What is asked of a hypothesis: its arrival at a stage with a p-value, or its rejection.
+/// What is requested for a hypothesis: its arrival at a stage with a p-value, or its rejection.
 #[derive(Clone, Copy)]
 enum Asked {
     Arrive(usize, Parts),
     Reject,
 }
 
-/// A hypothesis, and what is asked of it.
+/// A hypothesis, and what is requested for it.
 type Given = (usize, Asked);
 
 /// A rejection: the hypothesis, its stage and its weight.
 type Rejection = (usize, usize, Parts);
 
-/// Events one after another, and what each answers.
+/// Events one after another, and the answer to each.
 const ROWS: &[(Given, Result<(), StepFault>)] = &[
     // Nothing has arrived.
     ((0, Asked::Reject), Err(StepFault::NotLegal(0))),
@@ -51,7 +51,7 @@ const ROWS: &[(Given, Result<(), StepFault>)] = &[
     ),
     ((0, Asked::Arrive(1, (-1, 100))), Err(StepFault::PRange)),
     ((0, Asked::Arrive(1, (101, 100))), Err(StepFault::PRange)),
-    // Its denominator is above 10^30.
+    // The denominator of the p-value is above 10^30.
     (
         (
             0,
@@ -73,7 +73,7 @@ const ROWS: &[(Given, Result<(), StepFault>)] = &[
     ((0, Asked::Reject), Err(StepFault::Rejected(0))),
     // H2 has the whole level now.
     ((1, Asked::Reject), Ok(())),
-    // One that arrives for a rejected hypothesis is kept.
+    // A p-value that arrives for a rejected hypothesis is kept.
     ((1, Asked::Arrive(1, (1, 1))), Ok(())),
     ((1, Asked::Arrive(1, (1, 1))), Err(StepFault::Known(1, 1))),
     // A weight of 0.
@@ -135,7 +135,7 @@ fn rejections_stay_where_a_settling_breaks_off(rt: HostRuntime) -> Result<(), Fa
     }
     assert!(rt; study.settle().is_err());
     assert!(rt; study.settled().len() == 2);
-    // When requested, it is refused too, and nothing changes.
+    // A request for this rejection is refused too, and nothing changes.
     assert!(rt; 2 < study.size());
     assert!(rt; matches!(study.step(Event::Reject(2)), Err(StepFault::Wide(_))));
     assert!(rt; study.settled().len() == 2);

@@ -8,14 +8,14 @@ use sequential::{RejectFault, Trial, is_single};
 use std::alloc::Global;
 use std::process::Abort;
 
-/// What a trial answers where a rejection is requested.
+/// The answer of a trial to the request for a rejection.
 enum Answer {
     Done,
-    /// It is rejected already.
+    /// The hypothesis is rejected already.
     Again,
-    /// It isn't legal at this weight.
+    /// The hypothesis isn't legal at this weight.
     NotLegal(Parts),
-    /// It is legal, and its removal is too wide at this place.
+    /// The hypothesis is legal, and its removal is too wide at this place.
     Wide(Place),
 }
 
@@ -84,7 +84,7 @@ fn is_missing(positions: &[usize], k: usize) -> bool
     }
 }
 
-/// Returns the weight of `k`, or none where it was rejected.
+/// Returns the weight of `k`, or `None` if it was rejected.
 fn weight_of(trial: &Trial, k: usize) -> Option<Parts> {
     if k < trial.size() && is_missing(trial.rejected(), k) {
         let weight = trial.weight_limit(k).ratio();
@@ -114,7 +114,7 @@ fn is_answer(answer: Result<(), RejectFault>, wanted: &Answer) -> bool {
     }
 }
 
-/// Asks for a rejection; exactly where it is legal, it is done or too wide.
+/// Requests a rejection, and asserts its answer; exactly if the hypothesis is legal, the rejection is done or too wide.
 fn expect_call(rt: &impl Abort, trial: &mut Trial, call: &Call, label: &str) {
     let (hypothesis, answer, weights) = call;
     assert!(rt; *hypothesis < trial.size());

@@ -4,7 +4,7 @@ use std::cmp::Ordering;
 /// Numerator and denominator.
 pub type Terms = (i128, i128);
 
-/// Two operands, and what is stored, or nothing where the operation is refused.
+/// Two operands, and the result as it is stored; `None` if the operation is refused.
 pub type Written = (Terms, Terms, Option<Terms>);
 
 pub const ADD: &[Written] = &[

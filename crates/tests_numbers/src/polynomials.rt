@@ -26,7 +26,7 @@ pub fn has(p: &EpsPoly, coefficients: &[i128]) -> bool {
     (0..33).all(|power| p.coefficient(power) == coefficients.get(power).copied().unwrap_or(0))
 }
 
-/// Whether there is a polynomial with these coefficients, or neither.
+/// Whether the polynomial that is found has the wanted coefficients; or whether none is found, if none is wanted.
 fn agrees(found: Option<EpsPoly>, wanted: Option<Listed>) -> bool {
     match (found, wanted) {
         (Some(p), Some(coefficients)) => has(&p, coefficients),
@@ -43,9 +43,10 @@ const SHORT: Listed = &[1, -1, -1];
 
 const PRODUCT: Listed = &[MOST, 1 - MOST, -MOST, -2, -1];
 
-/// What is written, or nothing where it is refused. Quotients are exact ones, and nothing where there is none.
+/// An operation on two polynomials, and its result; `None` if it is refused. A quotient is exact, and `None` if no exact one
+/// exists.
 const OPERATIONS: &[(Listed, Op, Listed, Option<Listed>)] = &[
-    // to the edge of a size
+    // at the limit of a size
     (&[MOST - 1, 3, -4], Op::Add, &[1, -5], Some(&[MOST, -2, -4])),
     (&[MOST - 1, 3, -4], Op::Add, &[2], None),
     (&[0, 1 - MOST], Op::Sub, &[0, 1], Some(&[0, -MOST])),
@@ -67,7 +68,7 @@ const OPERATIONS: &[(Listed, Op, Listed, Option<Listed>)] = &[
         &[1, -1],
         Some(&[1 << 126, 0, -(1 << 126)]),
     ),
-    // partial sums are sized in their order
+    // the sizes of partial sums are tested in their order
     (SHORT, Op::Mul, LONG, Some(PRODUCT)),
     (LONG, Op::Mul, SHORT, None),
     (PRODUCT, Op::Div, SHORT, None),

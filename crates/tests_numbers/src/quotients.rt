@@ -15,7 +15,7 @@ fn quotient(rt: &impl Abort, terms: Terms) -> EpsQuotient {
     EpsQuotient::new(&poly(rt, terms.0), &poly(rt, terms.1)).expect(rt, "over 0")
 }
 
-/// Whether there is a quotient with these terms, or neither.
+/// Whether the quotient that is found has the wanted terms; or whether none is found, if none is wanted.
 fn agrees(found: Option<EpsQuotient>, wanted: Option<Terms>) -> bool {
     match (found, wanted) {
         (Some(x), Some(terms)) => has(&x.numerator(), terms.0) && has(&x.denominator(), terms.1),
@@ -34,11 +34,11 @@ const ONE: Listed = &[1];
 const LOWERED: &[(Terms, Option<Terms>)] = &[
     // 0 is 0/1
     ((ZERO, &[0, -7]), Some((ZERO, ONE))),
-    // the common content goes out, and the sign stands above
+    // the common content is divided out, and the numerator carries the sign
     ((&[6], &[-9]), Some((&[-2], &[3]))),
-    // so do common powers of epsilon
+    // common powers of epsilon are divided out
     ((&[0, 0, 4], &[0, 6]), Some((&[0, 2], &[3]))),
-    // and equal cores, of other contents and powers
+    // equal cores are divided out, also with other contents and powers
     ((&[2, 2], &[0, 3, 3]), Some((&[2], &[0, 3]))),
     ((&[-2, 2], &[3, -3]), Some((&[-2], &[3]))),
     // other common factors stay: (1 - e^2) / (1 + e)
@@ -102,7 +102,7 @@ const LAST: Terms = (
     ONE,
 );
 
-/// What is stored, or nothing where it is refused.
+/// An operation on two quotients, and its result as it is stored; `None` if it is refused.
 const OPERATIONS: &[(Terms, Op, Terms, Option<Terms>)] = &[
     (HALF, Op::Add, THIRD, Some((&[5], &[6]))),
     (LESS, Op::Add, LESS, Some((&[2, -2], ONE))),
@@ -164,7 +164,7 @@ fn operations_are_stored(rt: HostRuntime) {
     }
 }
 
-/// Coefficients by ascending power, and the sum of their terms, or nothing where it is refused.
+/// Coefficients by ascending power, and the sum of their terms; `None` if it is refused.
 const SUMMED: &[([(i128, i128); 5], Option<Terms>)] = &[
     // e/2 + e^3/3
     (
@@ -192,7 +192,7 @@ fn a_polynomial_is_summed_term_by_term(rt: HostRuntime) {
 
 // ---- order
 
-/// How the first compares with the second, or nothing where the difference is refused.
+/// Two quotients, and how the first compares with the second; `None` if the difference is refused.
 const ORDERS: &[(Terms, Terms, Option<Ordering>)] = &[
     (EPSILON, (ONE, &[1000000]), Some(Ordering::Less)),
     (EPSILON, NOTHING, Some(Ordering::Greater)),

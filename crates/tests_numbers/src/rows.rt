@@ -1,14 +1,14 @@
-//! How the rows of a table are tried.
+//! How the rows of a table are tested.
 use field_core::{Number, Op, TooWide};
 use std::fmt::Debug;
 use std::process::Abort;
 
-/// Returns what is said of a row holds.
+/// Asserts that a statement about a row holds.
 pub fn expect<R: Abort, D: Debug>(rt: &R, holds: bool, row: &D) {
     assert!(rt; holds, "{row:?}");
 }
 
-/// Returns what an operation gives, or nothing where it is refused; a refusal names the operation.
+/// Returns the result of an operation, or `None` if it is refused, and asserts that a refusal names the operation.
 pub fn given<T: Copy>(rt: &impl Abort, op: Op, answer: Result<T, TooWide>) -> Option<T> {
     match answer {
         Ok(found) => Some(found),
@@ -19,7 +19,7 @@ pub fn given<T: Copy>(rt: &impl Abort, op: Op, answer: Result<T, TooWide>) -> Op
     }
 }
 
-/// Returns what an operation on two numbers gives, or nothing where it is refused.
+/// Returns the result of an operation on two numbers, or `None` if it is refused.
 pub fn result<N: Number>(rt: &impl Abort, x: &N, op: Op, y: &N) -> Option<N> {
     let answer = match op {
         Op::Add => x.add(y),

@@ -29,12 +29,13 @@ abbrev pub FaultsAreWhereNoneGoesOn : {L K A : Type 0} → Kinds K → Form L K 
 FaultsAreWhereNoneGoesOn {L} {K} U f rows end = (fault : FaultAt K) → reading U f rows end ≡ Err fault
     → IsWhereNoneGoesOn f rows fault.line ⊎ ((fault ≡ record { line = end; kind = U.ended }) × IsUnfinished f rows)
 
--- A line with which no document continues, where one continues with those before it, is that of the first fault.
+-- If the lines before a line begin some document, and together with it they begin none, the first fault is in this line.
 abbrev pub NoneGoesOnIsFault : {L K A : Type 0} → Kinds K → Form L K A → List (Seen L) → ℕ → Type 0
 NoneGoesOnIsFault {L} {K} U f rows end = (number : ℕ) → IsWhereNoneGoesOn f rows number
     → (kind : K) × (reading U f rows end ≡ Err (record { line = number; kind = kind }))
 
--- The same, and a fault in a line is never that the text ended.
+-- The first fault is in the first line with which no document continues, and is not that the text ended. Or the lines begin a document without being
+-- one, and the fault is that they end.
 abbrev pub IsFirstWrong : {L K A : Type 0} → Kinds K → Form L K A → List (Seen L) → ℕ → Type 0
 IsFirstWrong {L} {K} U f rows end = (fault : FaultAt K) → reading U f rows end ≡ Err fault
     → ((fault.kind ≢ U.ended) × IsWhereNoneGoesOn f rows fault.line) ⊎ ((fault ≡ record { line = end; kind = U.ended }) × IsUnfinished f rows)

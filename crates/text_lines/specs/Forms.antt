@@ -14,11 +14,11 @@ pub record Seen (L : Type 0) : Type 0 where
 abbrev pub seen : {L : Type 0} → (List ℕ → L) → List Row → List (Seen L)
 seen line_of rows = map (λ row. record { number = row.number; line = line_of row.text }) rows
 
--- by their words
+-- these lines of a text, seen by their words
 abbrev pub words_seen : List Row → List (Seen (List (List ℕ)))
 words_seen rows = seen words_of rows
 
--- by their texts
+-- these lines of a text, seen by their texts
 abbrev pub texts_seen : List Row → List (Seen (List ℕ))
 texts_seen rows = seen (λ text. text) rows
 
@@ -77,7 +77,7 @@ next U (Then f g) line = then_taken (next U f line) g (λ a. next U (g a) line)
 next U (May l body other) line = may_take (l line) body (next U other line)
 next U (Many l body xs) line = may_take (l line) (λ a. Then (body xs a) (λ x. Many l body (xs ++ x ∷ []))) (Passes xs)
 
--- what is said where a text ends
+-- what a form says of a text that ends here, or that it ends too early
 abbrev pub ended : {L K A : Type 0} → Kinds K → Form L K A → Result A K
 ended U (Say a) = Ok a
 ended U (Line l) = Err U.ended
@@ -99,7 +99,7 @@ abbrev pub read : {L K A : Type 0} → Kinds K → Form L K A → List (Seen L) 
 read U f [] end = mapped (leaving []) (on_line end (ended U f))
 read U f (row ∷ rows) end = took_on (next U f row.line) row rows (λ g. read U g rows end)
 
--- no line may be left
+-- what was said, if no line is left; else the next line is not allowed
 abbrev pub all_read : {L K A : Type 0} → Kinds K → A → List (Seen L) → Result A (FaultAt K)
 all_read U a [] = Ok a
 all_read U a (row ∷ rows) = Err (record { line = row.number; kind = U.unexpected })

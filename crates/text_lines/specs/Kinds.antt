@@ -8,11 +8,11 @@ use Rattle.text_lines.specs.Forms.{Leaf, Form, Say, Then, May, Many, Kinds}
 abbrev pub words_after : {K A : Type 0} → List ℕ → (List (List ℕ) → Result A K) → Leaf (List (List ℕ)) K A
 words_after keyword f words = option_map f (words_behind keyword words)
 
--- the same of the text of a line
+-- a line with this first word, seen by its text, and what its other words say
 abbrev pub behind : {K A : Type 0} → List ℕ → (List (List ℕ) → Result A K) → Leaf (List ℕ) K A
 behind keyword f line = option_map f (words_behind keyword (words_of line))
 
--- the first, if there is one, and else the other
+-- the first answer, if there is one, and else the other
 abbrev pub either_of : {K A : Type 0} → Option (Result A K) → Option (Result A K) → Option (Result A K)
 either_of (Some r) other = Some r
 either_of None other = other
@@ -21,12 +21,12 @@ either_of None other = other
 abbrev pub or_line : {L K A : Type 0} → Leaf L K A → Leaf L K A → Leaf L K A
 or_line l m line = either_of (l line) (m line)
 
--- what a line says where it must be of one kind
+-- what a line says that must be of this kind: a line of another kind is unexpected
 abbrev pub expected : {K A : Type 0} → Kinds K → Option (Result A K) → Result A K
 expected U (Some r) = r
 expected U None = Err U.unexpected
 
--- what a line says if it is of one kind
+-- what a line says if it is of this kind; nothing if it is of another kind
 abbrev pub if_any : {K A : Type 0} → Option (Result A K) → Result (Option A) K
 if_any (Some (Ok a)) = Ok (Some a)
 if_any (Some (Err k)) = Err k

@@ -28,7 +28,7 @@ rows_from None rows = []
 abbrev pub ahead : Option Line → Remainder → Left
 ahead first lines = record { rows = rows_from first (rows_left lines); end = end_at lines }
 
--- where there is no line, all lines were taken
+-- if there is no first line, all lines were taken
 abbrev pub AreTaken : Option Line → Remainder → Type 0
 AreTaken (Some line) lines = Unit {0}
 AreTaken None lines = (rows_left lines ≡ []) × (lines.before + 1 ≡ end_at lines)

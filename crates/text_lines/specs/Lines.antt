@@ -4,7 +4,7 @@ use Rattle.std.specs.List.{slice_split}
 use Rattle.std.specs.Str.Lines.{strip_carriage_return}
 use Rattle.text_lines.specs.Words.{after_blanks}
 
--- the byte that ends a line
+-- whether a byte ends a line
 abbrev pub is_line_feed : ℕ → Bool
 is_line_feed b = b == 10
 
@@ -24,7 +24,7 @@ abbrev pub begins_comment : List ℕ → Bool
 begins_comment [] = true
 begins_comment (b ∷ bs) = b == 35
 
--- a line of blanks alone, or one whose first other byte is '#'
+-- whether a line consists of blanks alone, or its first other byte is '#'
 unfoldable pub is_skipped : List ℕ → Bool
 is_skipped line = begins_comment (after_blanks line)
 
@@ -52,12 +52,12 @@ texts_in rows = map (λ row. row.text) rows
 
 -- ---- a text that is read
 
--- what of a text is still to come, and how many lines are before it
+-- the part of a text that is still to come, and how many lines are before it
 pub record Remainder : Type 0 where
   pub before : ℕ
   pub text : List ℕ
 
--- its lines that aren't skipped
+-- the lines of a remainder that aren't skipped
 unfoldable pub rows_left : Remainder → List Row
 rows_left r = kept_after r.before (lines_of r.text)
 

@@ -8,7 +8,7 @@ use Rattle.text_lines.specs.Lines.{Row, Remainder, rows_left, end_at}
 abbrev pub row : Line → Row
 row line = record { number = line.number; text = line.text.now }
 
--- The next line that isn't skipped was taken, if there is one, and it is the last of those after it; and if there is none, all lines are after.
+-- The next line that isn't skipped was taken, and the lines before what is left end with it. If there is no such line, all lines were taken.
 pub record TakesRow (old : Remainder) (result : Option Line) (new : Remainder) : Type 0 where
   pub row : YieldsFirstBy row rows_left old result new
   pub end : end_at new ≡ end_at old

@@ -6,11 +6,11 @@ use Rattle.std.specs.Str.{bytes_eq}
 use Rattle.std.specs.Iterator.{YieldsFirstRef}
 use Rattle.std.specs.Borrow.{Bor}
 
--- a space or a tab
+-- whether a byte is a space or a tab
 abbrev pub is_blank : ℕ → Bool
 is_blank b = (b == 32) || (b == 9)
 
--- a word has a byte
+-- whether a text can be a word: it has a byte
 abbrev pub is_word : List ℕ → Bool
 is_word [] = false
 is_word (b ∷ bs) = true
@@ -27,7 +27,7 @@ after_blanks line = drop (prefix_len is_blank line) line
 unfoldable pub behind_word : List ℕ → List ℕ
 behind_word line = drop (position_or_len is_blank (after_blanks line)) (after_blanks line)
 
--- what follows its first n words
+-- what follows the first n words of a line
 abbrev pub behind_words : ℕ → List ℕ → List ℕ
 behind_words zero line = line
 behind_words (suc n) line = behind_words n (behind_word line)

@@ -8,8 +8,8 @@ ghost use Rattle.text_lines.specs.Left.{Left, first_of, behind_first, ahead};
 use crate::{Line, Lines};
 use std::marker::Model;
 
-/// The lines of a text that are still to come, so that the first of them can be looked at before it is taken. It is for readers
-/// by recursive descent. Skipped lines don't occur, as in `Lines`.
+/// The lines of a text that are still to come, of which the first can be looked at before it is taken, as readers by recursive
+/// descent need it. Skipped lines don't occur, as in `Lines`.
 #[derive(Drop)]
 pub struct Ahead<'a> {
     lines: Lines<'a>,
@@ -37,7 +37,7 @@ impl<'a> Ahead<'a> {
         Ahead { lines, first }
     }
 
-    /// Returns the first line, and leaves it there; `None` if no line is left.
+    /// Returns the first line without taking it; `None` if no line is left.
     pub fn first(&self) -> Option<Line<'a>>
         ensures { option_map row result ≡ first_of self.now.rows }
     {
@@ -52,7 +52,7 @@ impl<'a> Ahead<'a> {
         self.first = self.lines.next();
     }
 
-    /// Returns the number of all lines plus 1, once no line is left.
+    /// Returns the number of all lines plus 1. It requires that no line is left.
     pub fn end(&self) -> usize
         requires { self.now.rows ≡ [] }
         ensures { result ≡ self.now.end }

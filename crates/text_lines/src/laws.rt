@@ -13,8 +13,8 @@ pub fn spelt_lines_read_back()
     ensures words { (words : List (List ℕ)) → AllByRecursion IsWord words → words_of (line_spelt words) ≡ words }
 {}
 
-/// The first word is what is before the first blank, a space or a tab. All after it is the rest of the line, and blanks in
-/// front of that, or at the end of a line, change no word.
+/// The first word is what is before the first blank, which is a space or a tab, and the rest of the line is all that follows the
+/// word. Blanks in front of the rest, or at the end of a line, change no word.
 #[tactic(auto, using(crate::proofs::Spelt::word_ends))]
 pub fn words_end_at_blanks()
     ensures word { (b : ℕ) (word rest : List ℕ) → is_blank b ≡ true → IsWord word

@@ -20,7 +20,7 @@ impl<'a> Line<'a> {
         Words::new(self.text)
     }
 
-    /// Returns the words after the first one, if that is the keyword.
+    /// Returns the words after the first one if that is the keyword, and `None` otherwise.
     pub fn behind(&self, keyword: &[u8]) -> Option<Words<'a>>
         ensures words { option_map words_of result ≡ words_behind keyword.now (words_of self.now.text.now) }
         ensures rest { IfSome result (λ words. words ≡ behind_word self.now.text.now) }

@@ -10,9 +10,8 @@ use crate::Line;
 use crate::blank::after_blanks;
 use std::marker::Model;
 
-/// The lines of a text that are still to come, but those that are skipped. A line ends with a line feed, perhaps after a
-/// carriage return; the last one may lack its line feed. Lines of blanks, and lines whose first other byte is `#`, are
-/// skipped.
+/// The lines of a text that are still to come and aren't skipped. A line ends with a line feed, perhaps after a carriage
+/// return; the last one may lack its line feed. Lines of blanks, and lines whose first other byte is `#`, are skipped.
 #[derive(Drop)]
 pub struct Lines<'a> {
     rest: &'a [u8],
@@ -57,7 +56,7 @@ fn line_len(bytes: &[u8]) -> usize
     bytes.iter().take_while(|byte| **byte != b'\n').count()
 }
 
-/// Returns the front of a text up to its first line feed, and what follows that.
+/// Returns the front of a text before its first line feed, and what follows the line feed.
 fn cut_line(text: &[u8]) -> (&[u8], &[u8])
     ensures line { result.0.now ≡ before_first is_line_feed text.now }
     ensures rest { result.1.now ≡ after_first is_line_feed text.now }

@@ -27,7 +27,7 @@ impl<'a> Words<'a> {
         Words { rest: line }
     }
 
-    /// Returns what of the line follows the words taken so far.
+    /// Returns the part of the line that follows the words taken so far.
     pub fn rest(&self) -> &'a [u8]
         ensures { result.now ≡ self.now }
     {

@@ -1,4 +1,4 @@
--- What the closed test rejects in small entangled graphs, as contracts name it: facts that show what the definitions say.
+-- Which hypotheses the closed test rejects in small entangled graphs, as contracts name it: facts that show what the definitions mean.
 use Rattle.std.specs.Prelude.{ℕ, ◌==◌, Bool, [], ◌∷◌, pos}
 use Rattle.field_core.specs.Number.{Number}
 use Rattle.field_core.specs.Arithmetic.{number_zero, number_one}
@@ -31,7 +31,7 @@ linked_halves = alone 2 (arrow_graph number_field half half number_one)
 abbrev pub twentieth : Number
 twentieth = fraction (pos 1) (pos 20)
 
--- the p-values 1/40 and 13/500: the first is just half the level, the second a little more
+-- the p-values 1/40 and 13/500: the first is exactly half the level, the second a little more
 abbrev pub near_half : ℕ → Number
 near_half = entry number_field (fraction (pos 1) (pos 40) ∷ fraction (pos 13) (pos 500) ∷ [])
 
@@ -39,11 +39,11 @@ near_half = entry number_field (fraction (pos 1) (pos 40) ∷ fraction (pos 13) 
 abbrev pub HalvesAreValid : Type 0
 HalvesAreValid = IsValidEntangled two_halves × IsValidEntangled linked_halves
 
--- Without edges the first of the two is rejected, and the second isn't.
+-- Without edges the first of the two hypotheses is rejected, and the second isn't.
 abbrev pub OnlyFirstHalfIsRejected : Type 0
 OnlyFirstHalfIsRejected = IsRejected two_halves near_half twentieth 0 × ¬ IsRejected two_halves near_half twentieth 1
 
--- Over the edge the second gets the weight of the first, and is rejected too.
+-- Over the edge the second hypothesis gets the weight of the first, and both are rejected.
 abbrev pub BothLinkedHalvesAreRejected : Type 0
 BothLinkedHalvesAreRejected = IsRejected linked_halves near_half twentieth 0 × IsRejected linked_halves near_half twentieth 1
 
@@ -60,14 +60,14 @@ fortieth = fraction (pos 1) (pos 40)
 abbrev pub falling : ℕ → Number
 falling = entry number_field (fortieth ∷ fraction (pos 1) (pos 50) ∷ [])
 
--- Of two that are alike, the priority `last` takes the second one first, and the others don't.
+-- Of two hypotheses with the same weight and p-value, the priority `last` takes the second one first, and the other priorities take the first one first.
 abbrev pub AlikeAreTakenByPosition : Type 0
 AlikeAreTakenByPosition =
     IsFirstOrder two_halves (λ _. fortieth) twentieth whole (0 ∷ 1 ∷ [])
     × IsLastOrder two_halves (λ _. fortieth) twentieth whole (1 ∷ 0 ∷ [])
     × IsRatioOrder two_halves (λ _. fortieth) twentieth whole (0 ∷ 1 ∷ [])
 
--- If the second has the less p-value, the priority `ratio` takes it first, and the priority `first` doesn't.
+-- If the second hypothesis has the smaller p-value, the priority `ratio` takes it first, and the priority `first` doesn't.
 abbrev pub LeastRatioIsTakenFirst : Type 0
 LeastRatioIsTakenFirst = IsRatioOrder two_halves falling twentieth whole (1 ∷ 0 ∷ []) × IsFirstOrder two_halves falling twentieth whole (0 ∷ 1 ∷ [])
 
@@ -79,10 +79,10 @@ LeastLevelsOfTwoHalves = IsLeastLevel two_halves near_half 0 twentieth × IsLeas
 abbrev pub WeightZeroIsNeverRejected : Type 0
 WeightZeroIsNeverRejected = (m j : ℕ) → IsNeverRejected (alone m (graph_without_edges number_field (λ _. number_zero))) (λ _. number_zero) j
 
--- the table for two hypotheses that says yes of both together alone
+-- the table for two hypotheses whose answer is yes only for the set of both
 abbrev pub only_both : ℕ → Bool
 only_both n = n == 3
 
--- Of two hypotheses that are rejected only both together, one is a true discovery, and of neither of them alone it can be said.
+-- If only the set of both hypotheses is rejected, at least one of the two is a true discovery, and the bound for each of them alone is 0.
 abbrev pub BoundsOfTwo : Type 0
 BoundsOfTwo = IsBound 2 (SaysYes 2 only_both) whole 1 × IsBound 2 (SaysYes 2 only_both) (only 0) 0 × IsBound 2 (SaysYes 2 only_both) (only 1) 0

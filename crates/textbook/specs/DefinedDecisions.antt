@@ -10,30 +10,30 @@ use Rattle.sequential.specs.declared.priority.Priority.{Priority}
 use Rattle.adjusted_p.specs.WrittenRun.{IsWideAdjusting}
 use Rattle.textbook.specs.Gatekeeping.{IsGatekeepingGraph}
 
--- By whatever priority, no operation of the decision is undefined.
+-- No operation of the decision is undefined, by whatever priority.
 abbrev pub AreDecisionsDefined : Content → Type 0
 AreDecisionsDefined c = (priority : Priority) (n : ℕ) (w : WideAt) → ¬ IsWideDecision c priority n w
 
--- No operation of a decision is undefined, and none of the run of adjusted values.
+-- No operation of a decision or of the run of adjusted values is undefined.
 pub record IsNeverWide (c : Content) : Type 0 where
   pub decisions : AreDecisionsDefined c
   pub adjusted : (n : ℕ) (w : WideAt) → ¬ IsWideAdjusting c n w
 
--- Cases of Holm's graph are never too wide.
+-- Cases of Holm's graph, without epsilon, are never too wide.
 abbrev pub HolmDecisionsAreDefined : Type 0
 HolmDecisionsAreDefined = (c : Content) → IsValidContent c → is_plain c ≡ true → IsHolmGraph (entangled c) → IsNeverWide c
 
--- Cases of a chain whose weights have a common denominator of at most 100,000,000 are never too wide.
+-- Cases of a chain, without epsilon, whose weights have a common denominator of at most 100,000,000 are never too wide.
 abbrev pub FallbackDecisionsAreDefined : Type 0
 FallbackDecisionsAreDefined =
     (c : Content) (a : ℕ → ℕ) (d : ℕ) → IsValidContent c → is_plain c ≡ true → d < 100000000
     → IsFallbackGraph (λ i. fraction (pos (a i)) (pos (suc d))) (entangled c) → IsNeverWide c
 
--- Cases of the fixed sequence are never too wide.
+-- Cases of the fixed sequence, without epsilon, are never too wide.
 abbrev pub SequenceDecisionsAreDefined : Type 0
 SequenceDecisionsAreDefined = (c : Content) → IsValidContent c → is_plain c ≡ true → IsSequenceGraph (entangled c) → IsNeverWide c
 
--- Cases of parallel gatekeeping are never too wide.
+-- Cases of parallel gatekeeping, without epsilon, are never too wide.
 abbrev pub GatekeepingDecisionsAreDefined : Type 0
 GatekeepingDecisionsAreDefined =
     (c : Content) (a b : ℕ) → IsValidContent c → is_plain c ≡ true → IsGatekeepingGraph a b (entangled c) → IsNeverWide c

@@ -49,7 +49,7 @@ module _ (p : ℕ → Number) (level : Number) (a b : ℕ) where
   abbrev pub passed_level : Number
   passed_level = fraction (pos rejected_primaries) (pos a) *ε level
 
-  -- A secondary hypothesis is rejected: some primary one is, and Holm's rule rejects it among the secondary ones at the passed level.
+  -- A secondary hypothesis is rejected: some primary one is, and Holm's rule rejects the secondary one among the secondary ones at the passed level.
   pub record IsSecondaryRejected (j : ℕ) : Type 0 where
     pub place : ℕ
     pub is_place : j ≡ a + place
@@ -62,7 +62,7 @@ module _ (p : ℕ → Number) (level : Number) (a b : ℕ) where
 
 -- ---- what the graph decides
 
--- On the graph of parallel gatekeeping, the closed test is parallel gatekeeping.
+-- On the graph of parallel gatekeeping, the closed test rejects exactly what parallel gatekeeping rejects, at each level from 0 to 1.
 abbrev pub GatekeepingGraphsDecideAsGatekeeping : Type 0
 GatekeepingGraphsDecideAsGatekeeping =
     (E : EntangledGraph) (a b : ℕ) (p : ℕ → Number) (level : Number) (j : ℕ) → IsValidEntangled E → IsUnit level

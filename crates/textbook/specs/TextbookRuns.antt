@@ -28,7 +28,7 @@ pub record Stores (G : Graph Number) (S : StoredGraph) : Type 0 where
 abbrev pub IsNeverRefused : StoredGraph → Type 0
 IsNeverRefused S = (js : List ℕ) → IsOrder (size S) whole js → (T : StoredGraph) × (removed_in_turn (written_removal plain) S js ≡ Ok T)
 
--- Nor are they, nor the levels, in a bundle of this one net with share 1.
+-- In a bundle of this one net with share 1, no removals of distinct hypotheses are refused, and no levels.
 abbrev pub IsNeverRefusedAlone : StoredGraph → Type 0
 IsNeverRefusedAlone S =
     (js : List ℕ) → IsOrder (size S) whole js

@@ -1,4 +1,4 @@
-//! Small graphs and small cases: facts that show what the definitions say.
+//! Small graphs and small cases: facts that show what the definitions mean.
 
 ghost use Rattle.textbook.specs.ExampleStatements.{
   ExampleGraphsAreValid,
@@ -41,7 +41,8 @@ pub fn arrow_passes_its_part()
     ensures { ArrowPassesItsPart }
 {}
 
-/// What two hypotheses pass to each other alone is lost to a third one, and all of it arrives if they pass on epsilon.
+/// If two hypotheses pass weight only to each other, a third one gets nothing; if they pass epsilon of it on to the third one,
+/// all of it arrives there.
 pub fn pairs_of_hypotheses()
     ensures closed { ClosedPairKeepsItsWeight }
     ensures open_pair { OpenPairGivesAll }
@@ -62,7 +63,7 @@ pub fn gatekeeping_with_four_hypotheses()
     ensures limit { LimitOfImprovedGatekeepingIsAll }
 {}
 
-/// What the closed test rejects of one or two hypotheses.
+/// Closed tests of small graphs: which hypotheses they reject.
 #[tactic(auto, using(crate::proofs::ExampleTests::small_tests))]
 pub fn small_closed_tests()
     ensures valid { HalvesAreValid }

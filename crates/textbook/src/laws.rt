@@ -6,8 +6,8 @@ ghost use Rattle.textbook.specs.DefinedDecisions.{HolmDecisionsAreDefined, Seque
 ghost use Rattle.textbook.specs.DefinedDecisions.{GatekeepingDecisionsAreDefined};
 ghost use Rattle.textbook.specs.Gatekeeping.{GatekeepingGraphsDecideAsGatekeeping};
 
-/// On the graphs of Holm's rule, of the fixed sequence, of the fallback rule and of parallel gatekeeping no removal is refused,
-/// in whatever order, and no level.
+/// On the graphs of Holm's rule, of the fixed sequence, of fallback and of parallel gatekeeping no removal and no level is
+/// refused, in whatever order hypotheses are removed. The weights of fallback have a common denominator of at most 100,000,000.
 pub fn textbook_removals_are_defined()
     ensures holm { HolmRemovalsAreDefined }
     ensures sequence { SequenceRemovalsAreDefined }
@@ -15,7 +15,7 @@ pub fn textbook_removals_are_defined()
     ensures gatekeeping { GatekeepingRemovalsAreDefined }
 {}
 
-/// On cases of these graphs no decision is too wide, by whatever priority, and neither are adjusted values.
+/// On cases of these graphs, without epsilon, no decision by any priority is too wide, and no adjusted values are.
 pub fn textbook_decisions_are_defined()
     ensures holm { HolmDecisionsAreDefined }
     ensures sequence { SequenceDecisionsAreDefined }
@@ -23,8 +23,9 @@ pub fn textbook_decisions_are_defined()
     ensures gatekeeping { GatekeepingDecisionsAreDefined }
 {}
 
-/// On the graph of parallel gatekeeping the closed test rejects exactly what the rule rejects. Each primary hypothesis is tested
-/// at its part of the level. The parts of those that are rejected go to the secondary ones, which Holm's rule tests.
+/// On the graph of parallel gatekeeping the closed test rejects exactly what the rule rejects. The rule tests each primary
+/// hypothesis at its part of the level, and passes the parts of those that are rejected to the secondary ones, which Holm's
+/// rule tests.
 pub fn gatekeeping_graphs_decide_as_the_rule()
     ensures { GatekeepingGraphsDecideAsGatekeeping }
 {}

@@ -25,7 +25,7 @@ pub record HasUnread (m : ℕ) (bits : ℕ → ℕ) : Type 0 where
   pub below : place < m
   pub unread : reading_of (bits place) ≡ None
 
--- a mark is 1 exactly if something holds, and else 0
+-- a mark is 1 exactly if the given fact holds, and else 0
 abbrev pub IsMark : Type 0 → ℕ → Type 0
 IsMark P mark = (P × (mark ≡ 1)) ⊎ ((¬ P) × (mark ≡ 0))
 
@@ -38,7 +38,7 @@ abbrev pub IsRunDefined : Content → List Ratio → Type 0
 IsRunDefined c ps = (step : ℕ) (at : WideAt) → ¬ IsWideDecision (with_p c ps) First step at
 
 -- What a row of doubles gives: a mark for each hypothesis of the case, and a status. Either each double has a reading, and the run with these is defined;
--- or one has none; or each has one, and the run is undefined. Exactly one of the three is so, since a double has at most one reading.
+-- or one has none; or each has one, and the run is undefined. Exactly one of the three holds, since a double has at most one reading.
 pub data IsRowTested (c : Content) (bits marks : ℕ → ℕ) (status : ℕ) : Type 0 where
   decided : status ≡ 0 → (ps : List Ratio) → AreReadings (length c.names) bits ps → IsRunDefined c ps
       → ((j : ℕ) → j < length c.names → IsMark (IsRejectedIn (with_p c ps) j) (marks j)) → IsRowTested c bits marks status
@@ -46,7 +46,7 @@ pub data IsRowTested (c : Content) (bits marks : ℕ → ℕ) (status : ℕ) : T
   wide : status ≡ 5 → (ps : List Ratio) → AreReadings (length c.names) bits ps → (step : ℕ) → (at : WideAt)
       → IsWideDecision (with_p c ps) First step at → AreUnmarked (length c.names) marks → IsRowTested c bits marks status
 
--- what is in a row of `m` places, row by row
+-- the value at place `j` of a row, where each row has `m` places and rows follow one another
 abbrev pub in_row : ℕ → List ℕ → ℕ → ℕ → ℕ
 in_row m xs row j = get_or xs (row * m + j) 0
 
@@ -55,12 +55,12 @@ abbrev pub AreRowsTested : Content → List ℕ → List ℕ → List ℕ → Ty
 AreRowsTested c doubles marks statuses = (row : ℕ) → row < length statuses
     → IsRowTested c (in_row (length c.names) doubles row) (in_row (length c.names) marks row) (get_or statuses row 0)
 
--- there are a double and a mark for each of `m` hypotheses in each row
+-- there are exactly one double and one mark for each of `m` hypotheses in each row
 pub record AreRows (m doubles marks rows : ℕ) : Type 0 where
   pub doubles_are : doubles ≡ rows * m
   pub marks_are : marks ≡ doubles
 
--- a refused opening
+-- the fault of an opening as a fault of rows
 abbrev pub of_opening : OpenFault → RowsFault
 of_opening (openings.Wide at) = Wide at
 of_opening openings.NoMemory = NoMemory

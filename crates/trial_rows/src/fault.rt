@@ -6,7 +6,7 @@ use std::alloc::AllocError;
 /// Why no row is decided.
 #[derive(Clone, Copy, PartialEq, Eq, Debug)]
 pub enum RowsFault {
-    /// The rows don't have a double and a byte for each hypothesis.
+    /// There are not exactly one double and one byte for each hypothesis in each row.
     Lengths,
     /// The first operation of the opening that is undefined.
     Wide(WideAt),

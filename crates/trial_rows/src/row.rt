@@ -16,7 +16,7 @@ use fraction::Fraction;
 use sequential::{Priority, Trial, reject_all};
 use typed_numbers::reading;
 
-/// Reads doubles, by their bits. It is false if one has no reading.
+/// Reads doubles, by their bits, into `p_values`. Returns false if one of them has no reading.
 fn read_all(bits: &[u64], p_values: &mut [Fraction]) -> bool
     requires { length p_values.old ≡ length bits.now }
     ensures read { result ≡ true → AreReadings (length bits.now) (λ j. get_or bits.now j 0) p_values.new }
@@ -54,8 +54,8 @@ fn unmark_all(marks: &mut [u8])
 ///
 /// Statuses: 0 decided; 3 a double has no reading; 5 the run is undefined. With 3 and 5 each mark is 0.
 ///
-/// `opened` are the nets of the case as they are loaded. `current` is a trial of the case, with whatever p-values. `p_values` has
-/// room for those of the row.
+/// `opened` are the nets of the case as they are loaded. `current` is a trial of the case, with any p-values. `p_values` has room
+/// for those of the row.
 pub(crate) fn test_row(
     case: &Case,
     opened: &CaseNet,

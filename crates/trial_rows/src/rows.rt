@@ -16,7 +16,7 @@ use fraction::Fraction;
 use sequential::Trial;
 use std::alloc::Global;
 
-/// Whether there are a double and a mark for each of `size` hypotheses in each row.
+/// Whether there are exactly one double and one mark for each of `size` hypotheses in each row.
 fn are_rows(size: usize, doubles: usize, marks: usize, rows: usize) -> bool
     ensures { IsTrue result ↔ AreRows size doubles marks rows }
 {
@@ -63,15 +63,17 @@ fn test_each(
     }
 }
 
-/// Decides a case with each of many rows of p-values in place of its own; it may have none.
+/// Decides a case with each of many rows of p-values in place of its own; the case may have none of its own.
 ///
 /// `p` has the bits of the doubles, and `rejected` a mark for each hypothesis, both row by row. `statuses` has a status for each
-/// row. A row whose doubles can all be read is decided with the readings. Its status is then 0, and its marks are 1 for the
-/// hypotheses that the closed test rejects and 0 for the others. The status is 3 if a double has no reading, and 5 if the run is
-/// undefined; all marks of the row are then 0.
+/// row:
+/// - 3 if a double has no reading; all marks of the row are then 0.
+/// - 5 if each has one, but the run with the readings is undefined; all marks of the row are then 0.
+/// - 0 if the row is decided with the readings. Its marks are 1 for the hypotheses that the closed test rejects, and 0 for the
+///   others.
 ///
-/// Errors, with which nothing is written:
-/// - `Lengths`: exactly if there aren't a double and a mark for each hypothesis in each row.
+/// Errors; nothing is written then:
+/// - `Lengths`: exactly if there aren't exactly one double and one mark for each hypothesis in each row.
 /// - `Wide`: else, if the opening is undefined.
 /// - `NoMemory`: else, at any time.
 pub fn test_rows(

@@ -1,4 +1,4 @@
--- That each double has a reading, on which the definition of `reading_of` rests; whoever reads contracts can pass them by.
+-- Laws that each double has a reading, on which the definition of `reading_of` depends. A reader of contracts can skip them.
 pub mod Doubles
 pub mod Grids
 pub mod Multiples

@@ -21,7 +21,7 @@ pub record IsJustAbove (bits n q : ℕ) : Type 0 where
   pub not_below : units_of bits * q ≤ n * 2 ^ 1074
   pub near : (n * 2 ^ 1074 - units_of bits * q) * 10 ^ 30 < 2 ^ 1074 * q
 
--- What a double is read as rounds to it, or is just above it.
+-- The reading of a double rounds to the double, or is just above it.
 abbrev pub ReadingsAreNear : Type 0
 ReadingsAreNear = (bits n q : ℕ) → IsReadAs bits n q → RoundsTo bits n q ⊎ IsJustAbove bits n q
 

@@ -11,10 +11,11 @@ const PLACES: u32 = 30;
 /// 5 to the 30.
 const FIVE_TO_30: u128 = 931322574615478515625;
 
-/// The most binary places that a unit can have here: with more, one unit is above the interval.
+/// The most binary places that a unit can have in this search: with more, one unit is above the interval.
 const MOST_PLACES: u32 = 125;
 
-/// Returns the least number of units that are not below the lower end of an interval, or above it if the ends don't belong to it.
+/// Returns the least number of units that is not below the lower end of an interval, and above it if the ends don't belong to
+/// the interval.
 fn first_multiple(low: u128, ends: u128, unit: u128) -> u128
     requires ends { ends ≤ 1 }
     requires some { 0 < unit }
@@ -98,7 +99,7 @@ pub fn shortest(x: Interval) -> Option<(u128, u128)>
     None
 }
 
-/// Returns the numerator of a double that is rounded up to a multiple of 10^-30.
+/// Returns the numerator, over 10^30, of a double that is rounded up to a multiple of 10^-30.
 pub fn rounded_up(x: Interval) -> u128
     ensures { IsLeastAbove x.places x.middle result }
 {

@@ -54,7 +54,7 @@ fn places_of(exponent: u64) -> u32
 }
 
 impl Interval {
-    /// Returns the interval of a double between 0 and 1, without them.
+    /// Returns the interval of the double with these bits, which is above 0 and below 1.
     pub fn of(bits: u64) -> Interval
         requires above_zero { 0 < bits }
         requires below_one { bits < 0x3ff0000000000000 }

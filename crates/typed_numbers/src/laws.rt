@@ -13,7 +13,7 @@ pub fn readings_are_unique()
     ensures { ReadingsAreUnique }
 {}
 
-/// What a double is read as rounds to it, or is above it by less than 10^-30.
+/// The reading of a double rounds to the double, or is above it by less than 10^-30.
 pub fn readings_are_near()
     ensures { ReadingsAreNear }
 {}
@@ -23,7 +23,7 @@ pub fn readings_are_by_the_rules()
     ensures { ReadingsAreByTheRules }
 {}
 
-/// What a double is read as is from 0 to 1, with a denominator of at most 10^30.
+/// The reading of a double is from 0 to 1, and its denominator is at most 10^30.
 pub fn readings_are_short_units()
     ensures { ReadingsAreShortUnits }
 {}

@@ -67,7 +67,7 @@ const UNREADABLE: &[u64] = &[
     0xbff0_0000_0000_0000,
 ];
 
-/// Returns numerator and denominator of a reading, and 0 and 0 of none.
+/// Returns numerator and denominator of a reading, and 0 and 0 if there is none.
 fn terms(read: Option<Fraction>) -> (i128, i128) {
     match read {
         Some(x) => (x.ratio().num(), x.ratio().den()),

@@ -1,4 +1,4 @@
--- What a call from C answers.
+-- The answers of calls from C.
 use Rattle.std.specs.Prelude.{◌≡◌, ◌⊎◌, ℕ, List, Some}
 use Rattle.answers.specs.declared.answer.Answer.{Answer}
 use Rattle.answers.specs.Codes.{status_code}
@@ -7,7 +7,7 @@ use Rattle.answers.specs.Stages.{IsAnswerOf}
 use Rattle.graph_cli.specs.Outcome.{outcome}
 use Rattle.welungad_c.specs.Delivery.{Delivers}
 
--- An answer of this kind has this text and this status.
+-- The text and the status are those of some expected answer.
 pub record IsAnswered (Expected : Answer → Type 0) (text : List ℕ) (status : ℕ) : Type 0 where
   pub answer : Answer
   pub expected : Expected answer
@@ -22,7 +22,7 @@ IsOutOfMemory text status = (text ≡ no_memory) × (status ≡ 8)
 abbrev pub Replies : List (List ℕ) → List ℕ → List ℕ → List ℕ → ℕ → Type 0
 Replies words case proof text status = IsAnswered (IsAnswerOf (outcome words (Some case) (Some proof))) text status ⊎ IsOutOfMemory text status
 
--- A reply was handed to the caller.
+-- A reply was delivered to the caller.
 pub record Answers (words : List (List ℕ)) (case proof old new : List ℕ) (needed result : ℕ) : Type 0 where
   pub text : List ℕ
   pub status : ℕ

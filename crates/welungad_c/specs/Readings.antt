@@ -1,4 +1,4 @@
--- What doubles are read as, in words of 64 bits.
+-- The readings of doubles, in words of 64 bits.
 use Rattle.std.specs.Prelude.{◌≡◌, ◌⊎◌, ℕ, ◌+◌, ◌*◌, ◌^◌, ◌<◌, pos, List, length, get_or, Option, Some, None}
 use Rattle.field_core.specs.Terms.{Terms}
 use Rattle.fraction.specs.View.{terms_of}
@@ -15,7 +15,7 @@ pub record AreParts (x : Terms) (words : ℕ → ℕ) : Type 0 where
   pub numerator : x.num ≡ pos (number_in (words 0) (words 1))
   pub denominator : x.den ≡ pos (number_in (words 2) (words 3))
 
--- Four words are those of a reading: of a fraction, or zeros if there is none.
+-- Four words are those of a reading: those of its fraction, or zeros if there is none.
 abbrev pub AreWordsOf : Option Fraction → (ℕ → ℕ) → Type 0
 AreWordsOf None words = (j : ℕ) → j < 4 → words j ≡ 0
 AreWordsOf (Some x) words = AreParts (terms_of x) words
@@ -28,6 +28,6 @@ AreReadIn bits words = (i : ℕ) → i < length bits → AreWordsOf (reading_of 
 abbrev pub HasFourWords : List ℕ → List ℕ → Type 0
 HasFourWords bits words = length words ≡ length bits * 4
 
--- Each double has its words, with status 0. Or there aren't four words for each; then nothing is written, with status 11.
+-- The status is 0 and the words of each double are written, or there aren't four words for each, the status is 11, and nothing is written.
 abbrev pub Reads : List ℕ → List ℕ → List ℕ → ℕ → Type 0
 Reads bits old new result = (HasFourWords bits old × (result ≡ 0) × AreReadIn bits new) ⊎ (¬ HasFourWords bits old × (result ≡ 11) × (new ≡ old))

@@ -33,8 +33,8 @@ fault_code Lengths = 11
 fault_code (Wide at) = 5
 fault_code NoMemory = 8
 
--- Each row is tested on the case that the text denotes, with status 0. Or none is, since there is no case, or for a fault of the rows or of the
--- opening. Then no mark and no status of a row is written.
+-- Each row is tested on the case that the text denotes, and the status is 0. Or no row is tested, for one of two reasons: there is no case, or the rows
+-- or the opening have a fault. Then no mark and no status of a row is written.
 pub data TestsRows (bytes doubles old_marks marks old_statuses statuses : List ℕ) (result : ℕ) : Type 0 where
   tested : (c : Content) → IsCaseOf bytes c → AreRows (length c.names) (length doubles) (length old_marks) (length old_statuses) → IsOpeningDefined c
       → AreRowsTested c doubles marks statuses → result ≡ 0 → TestsRows bytes doubles old_marks marks old_statuses statuses result

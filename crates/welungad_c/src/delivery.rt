@@ -1,4 +1,4 @@
-//! Handing a text to the caller.
+//! The delivery of a text to the caller.
 ghost use Rattle.welungad_c.specs.Delivery.{Delivers};
 
 /// Puts as much of a text as fits at the front of `out`, and its length into `needed`.

@@ -1,16 +1,20 @@
-//! The calls for C, all in the caller's memory. One takes words, a case and a proof, and gives a text and a status. One reads doubles as
-//! fractions, and one decides a case with many rows of p-values.
+//! The calls for C, all in the caller's memory:
+//! - `welungad_run` takes words, a case and a proof, and gives a text and a status.
+//! - `welungad_read` reads doubles as fractions.
+//! - `welungad_test_rows` decides a case with many rows of p-values.
+//! - `welungad_interface` returns the number of this interface.
 //!
 //! Proved:
-//! - `welungad_run`, `answers`: if the bytes are those of words, the call has the answer to them, the case and the proof
+//! - `welungad_run`, `answers`: if the bytes are those of words, the call gives the answer to them, the case and the proof
 //!   (`outcome` of `graph_cli`), or is out of memory. As much of the text as fits is put into the caller's memory, and its whole
 //!   length is reported. Status 7 comes exactly when the text doesn't fit.
-//! - `welungad_run`, `unread`: if they are not, the status is 10 and nothing is put, or the call is out of memory.
+//! - `welungad_run`, `unread`: if the bytes are not those of words, the status is 10 and nothing is put, or the call is out of
+//!   memory.
 //! - `welungad_read`: each double has the parts of its reading (`reading_of` of `typed_numbers`) in its four words, or four zeros
-//!   exactly if it has none. Or there aren't four words for each, the status is 11, and nothing is written.
-//! - `welungad_test_rows`: each row is tested (`AreRowsTested` of `trial_rows`) on the case that the text denotes, if that has no stages,
-//!   the lengths fit it, and its opening is defined. If not, or out of memory, nothing is written, and the status says why. A refused text
-//!   has the status that the program gives it.
+//!   exactly if it has no reading. If there aren't four words for each double, the status is 11 and nothing is written.
+//! - `welungad_test_rows`: each row is tested (`AreRowsTested` of `trial_rows`) on the case that the text denotes. This requires
+//!   that the case has no stages, that the lengths fit it, and that its opening is defined. If not, or if out of memory, nothing
+//!   is written, and the status gives the reason. A refused text has the status that the program gives it.
 //! - `welungad_interface`.
 //!
 //! Not proved, as at any export: that the caller's C code keeps what `c/welungad.h` requires.
@@ -48,12 +52,15 @@ pub extern "C" fn welungad_interface() -> u32
 
 /// Does what the program does for all words except those of a study, in the caller's memory.
 ///
-/// `words` are the words after the program's name, each ended by a byte 0. `case` holds the bytes of standard input, and `proof`
-/// those of the file that the words name. As much of the text as fits goes to the front of `out`; the rest of `out` stays.
-/// `needed` becomes the length of the whole text.
+/// - `words` are the words after the program's name, each ended by a byte 0.
+/// - `case` holds the bytes of standard input, and `proof` those of the file that the words name.
+/// - As much of the text as fits goes to the front of `out`, and the rest of `out` stays. `needed` becomes the length of the
+///   whole text.
 ///
-/// Statuses: 0 to 5 and 8 are the program's. 7: the text doesn't fit into `out`. 10: `words` aren't words in UTF-8, each ended
-/// by a byte 0; then `out` stays, and `needed` becomes 0.
+/// Statuses:
+/// - 0 to 5 and 8: those of the program
+/// - 7: the text doesn't fit into `out`
+/// - 10: `words` aren't words in UTF-8, each ended by a byte 0; then `out` stays, and `needed` becomes 0
 #[unsafe(no_mangle)]
 pub extern "C" fn welungad_run(
     alloc: Global,
@@ -86,7 +93,9 @@ pub extern "C" fn welungad_run(
 /// `out` gets four words for each double: the numerator and then the denominator, each as its low word and its high word. A
 /// double without a reading gets four zeros.
 ///
-/// Statuses: 0 written. 11: `out` doesn't have four words for each double; then it stays.
+/// Statuses:
+/// - 0: the words of each double are written
+/// - 11: `out` doesn't have four words for each double; then it stays
 #[unsafe(no_mangle)]
 pub extern "C" fn welungad_read(bits: &[u64], out: &mut [u64]) -> u8
     ensures { Reads bits.now out.old out.new result }
@@ -98,15 +107,19 @@ pub extern "C" fn welungad_read(bits: &[u64], out: &mut [u64]) -> u8
     0
 }
 
-/// Decides the case of a text with each of many rows of p-values in place of its own; it may have none.
+/// Decides the case of a text with each of many rows of p-values, which take the place of its own p-values, if it has any.
 ///
-/// `p` has the bits of the doubles, and `rejected` a mark for each hypothesis, both row by row. `statuses` has a status for each
-/// row. It becomes 0 if the row is decided, and then a mark is 1 if its hypothesis is rejected and else 0. It becomes 3 if a
-/// double of the row has no reading, and 5 if the run is undefined; then all marks of the row are 0.
+/// `p` holds the bits of the doubles, and `rejected` a mark for each hypothesis, both row by row. `statuses` holds a status for
+/// each row:
+/// - 0: the row is decided; a mark of it is 1 if its hypothesis is rejected, and else 0
+/// - 3: a double of the row has no reading; all marks of the row are 0
+/// - 5: the run is undefined; all marks of the row are 0
 ///
-/// Statuses: 0 each row has its status. 3, 4, 5: the text is refused, as `canon` refuses it, or its opening is undefined; 3 also
-/// if it has stages. 8: out of memory. 11: there aren't a double and a mark for each hypothesis in each row. With each but 0
-/// nothing is written.
+/// Statuses of the call; with each except 0 nothing is written:
+/// - 0: each row has its status
+/// - 3, 4, 5: the text is refused, as `canon` refuses it, or its opening is undefined; 3 also if the case has stages
+/// - 8: out of memory
+/// - 11: there aren't a double and a mark for each hypothesis in each row
 #[unsafe(no_mangle)]
 pub extern "C" fn welungad_test_rows(
     alloc: Global,

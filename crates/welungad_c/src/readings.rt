@@ -1,4 +1,4 @@
-//! What doubles are read as, in the caller's memory.
+//! The readings of doubles, in the caller's memory.
 ghost use Rattle.std.specs.Prelude.{◌≡◌, ◌+◌, ◌*◌, ◌/◌, ◌%◌, ◌^◌, length, get_or};
 ghost use Rattle.typed_numbers.specs.Readings.{reading_of};
 ghost use Rattle.welungad_c.specs.Readings.{AreWordsOf, AreReadIn, HasFourWords};
@@ -19,8 +19,8 @@ fn high(number: u128) -> u64
     (number / (1 << 64)) as u64
 }
 
-/// Returns the words of what a double is read as: the numerator and the denominator, each with its low word first, or zeros if it has
-/// no reading.
+/// Returns the four words of the reading of a double: the numerator and the denominator, each with its low word first, or zeros
+/// if it has no reading.
 fn words_of(bits: u64) -> [u64; 4]
     ensures { AreWordsOf (reading_of bits) (λ j. get_or result j 0) }
 {
@@ -35,7 +35,7 @@ fn words_of(bits: u64) -> [u64; 4]
     }
 }
 
-/// Writes what doubles are read as, four words for each.
+/// Writes the readings of doubles, four words for each.
 pub fn write_readings(bits: &[u64], out: &mut [u64])
     requires { HasFourWords bits.now out.old }
     ensures { AreReadIn bits.now out.new }

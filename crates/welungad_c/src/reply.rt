@@ -1,4 +1,4 @@
-//! What the top call replies.
+//! Replies of the top call.
 ghost use Rattle.std.specs.Prelude.{◌≡◌, IfOk};
 ghost use Rattle.graph_io.specs.MemorySource.{bytes_left};
 
@@ -7,7 +7,7 @@ use graph_cli::run;
 use graph_io::{MemorySource, WholeText};
 use std::alloc::Global;
 
-/// A status up to 5, or 8, and the whole text that comes with it.
+/// A reply of the top call: a status up to 5, or 8, and the whole text that comes with it.
 #[derive(Drop)]
 pub struct Reply {
     pub status: u8,
@@ -18,7 +18,7 @@ impl Reply {
     ghost use Rattle.command_words.specs.WordBytes.{words_in};
     ghost use Rattle.welungad_c.specs.Calls.{Replies};
 
-    /// Returns what the top call replies to these words, this case and this proof. `NoMemory`: out of memory for the bytes or for
+    /// Returns the reply of the top call to these words, this case and this proof. `NoMemory`: out of memory for the bytes or for
     /// the text.
     pub fn to(alloc: Global, words: &[String], case: &[u8], proof: &[u8]) -> Result<Reply, NoMemory>
         ensures { IfOk result (λ reply.

@@ -37,7 +37,7 @@ fn case_of(alloc: Global, text: &[u8]) -> Result<Case, u8>
     }
 }
 
-/// Returns the status of a fault.
+/// Returns the status of a call that decides no row because of a fault.
 fn status_of(fault: RowsFault) -> u8
     ensures { result ≡ fault_code fault }
 {
@@ -48,7 +48,7 @@ fn status_of(fault: RowsFault) -> u8
     }
 }
 
-/// Decides the case of a text with each of many rows of p-values, and returns the status.
+/// Decides the case of a text with each of many rows of p-values, and returns the status of the call.
 pub fn test_text(
     alloc: Global,
     text: &[u8],

@@ -10,8 +10,8 @@ const CASE: &[u8] = b"alpha 0.05\nhypotheses H1 H2\np 0.02 0.06\nweights 1/2 1/2
 const REPORT: &[u8] =
     b"alpha 1/20\nstep 1 H1 p 1/50 weight 1/2\nkept H2 p 3/50 weight 1\nrejected H1\nadjusted H1 1/25\nadjusted H2 3/50\nend\n";
 
-/// Holds a call with room for `room` bytes to its status, the length of the whole text, and the bytes that are put. Those after
-/// them stay.
+/// Tests a call that has `room` bytes to write to: its status, the length of the whole text, and the bytes that are put; those
+/// after them stay.
 fn expect(
     rt: &impl Abort,
     alloc: Global,
@@ -61,7 +61,7 @@ fn refuses_words(rt: HostRuntime) -> Result<(), Fail> {
     expect(&rt, alloc, b"t\xFFst\0", 20, (10, 0, b""))
 }
 
-/// Whether 0.025, 0.1 + 0.2, the least double and a NaN have their four words, and nothing is written if there are others.
+/// Whether 0.025, 0.1 + 0.2, the least double and a NaN get their four words, and nothing is written if `out` has more or fewer.
 #[test]
 fn reads_doubles(rt: HostRuntime) -> Result<(), Fail> {
     let bits = [
@@ -81,7 +81,7 @@ fn reads_doubles(rt: HostRuntime) -> Result<(), Fail> {
     Ok(())
 }
 
-/// Decides `CASE` with 0.025 for H1 and 0.05 for H2, with 0.06 and 0, and with 2 and 0.
+/// Decides a case with three rows: 0.025 for H1 and 0.05 for H2, then 0.06 and 0, then 2 and 0.
 fn decide_rows(alloc: Global, case: &[u8], marks: &mut [u8], statuses: &mut [u8]) -> u8 {
     let p = [
         0x3f99_9999_9999_999a,

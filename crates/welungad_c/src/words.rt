@@ -8,7 +8,7 @@ use field_core::{List, NoMemory};
 use std::alloc::{AllocError, Global};
 use std::str;
 
-/// Why there are no words.
+/// Why the words of a call couldn't be read.
 #[derive(Clone, Copy, PartialEq, Eq, Debug)]
 pub enum NoWords {
     NoMemory,

@@ -16,7 +16,7 @@ impl FileAt {
     ghost use Rattle.welungad_main.specs.Files.{path_of};
     ghost use Rattle.std.specs.Prelude.{string_bytes};
 
-    /// Opens the file at a path. The clause says which path is kept; that `fs::open` opens the file there is trusted.
+    /// Opens the file at a path. The clause proves which path is kept; that `fs::open` opens the file there is trusted.
     pub fn open(rt: &HostRuntime, path: String) -> io::Result<FileAt>
         ensures { IfOk result (λ file. path_of file ≡ string_bytes path) }
     {

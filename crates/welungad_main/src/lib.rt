@@ -1,4 +1,4 @@
-//! All of the program but its `main`: the words after its name, its real devices, and the call over them.
+//! All of the program except its `main`: the words after its name, its real devices, and the call over them.
 //!
 //! `call` reads the words, takes standard input and standard output, opens what the words name, calls `run_program`, and returns
 //! its status. It is proved safe.
@@ -6,10 +6,12 @@
 //! Proved:
 //! - `FileOpener` opens the file and the store at the paths that it is given (`at`).
 //!
-//! The stored runs of the programs `welungad` and `welungad_study` show that `call` gives the right words and devices to
-//! `run_program`, and that its status is that of the process. `bench/study.py` shows that it opens the real files. Two statuses of
-//! its own, with which nothing is printed, have no clause but a test each. They are 10 if a word can't be read
-//! (`tools/test_tools.py`), and 8 if there is no memory for the words (`bench/allocations.sh`).
+//! Only tested:
+//! - `call` gives the right words and devices to `run_program`, and its status is that of the process: shown by the stored runs
+//!   of the programs `welungad` and `welungad_study`.
+//! - `call` opens the real files: shown by `bench/study.py`.
+//! - `call` itself has two statuses, with which nothing is printed: 10 if a word can't be read (`tools/test_tools.py`), and 8
+//!   if there is no memory for the words (`bench/allocations.sh`).
 #![tactic(auto)]
 
 mod file_at;
@@ -22,7 +24,8 @@ use graph_io::{StdSink, StdSource};
 use program::run_program;
 use std::process::ExitCode;
 
-/// Makes the call that the words after the program's name ask for, and returns its status.
+/// Makes the call that the words after the program's name require, and returns the status of `run_program`, or of `NoWords` if
+/// the words can't be read.
 pub fn call(rt: &HostRuntime) -> ExitCode {
     match read_words(rt) {
         Ok(words) => {

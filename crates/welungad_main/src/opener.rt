@@ -6,7 +6,7 @@ use program::{NotOpened, Opener};
 use std::io;
 use study_sqlite::SqliteKeeper;
 
-/// Opens files at paths. Contracts know at which, and nothing of what they hold.
+/// An opener of files at paths. Contracts know these paths, and nothing of what the files hold.
 #[derive(Drop)]
 pub struct FileOpener {
     rt: HostRuntime,
@@ -55,7 +55,7 @@ impl Opener for FileOpener {
 
     fn close_file(&mut self, _path: &str, _file: StdSource<FileAt>) {}
 
-    /// The file is opened when looks are first requested.
+    /// Returns the store at a path. Its file is opened when looks are first requested.
     fn open_store(&mut self, path: &str) -> Result<SqliteKeeper, NoMemory> {
         match String::from_str(self.rt.alloc(), path) {
             Ok(path) => Ok(SqliteKeeper::at(&self.rt, path)),
@@ -63,7 +63,7 @@ impl Opener for FileOpener {
         }
     }
 
-    /// Where the log can't be copied into the file, it keeps the looks.
+    /// Closes the store. If the log can't be copied into the file, the log keeps the looks.
     fn close_store(&mut self, _path: &str, store: SqliteKeeper) {
         let _ = store.close();
     }

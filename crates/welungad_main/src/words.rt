@@ -2,7 +2,7 @@
 use std::alloc::AllocError;
 use std::{env, io};
 
-/// Why the words couldn't be had.
+/// Why the words after the program's name couldn't be read.
 #[derive(Clone, Copy)]
 pub enum NoWords {
     NoMemory,
@@ -10,7 +10,7 @@ pub enum NoWords {
 }
 
 impl NoWords {
-    /// Returns the status that the program ends with, with nothing printed.
+    /// Returns the status with which the program ends. Nothing is printed then.
     pub fn status(&self) -> u8 {
         match self {
             NoWords::NoMemory => 8,
@@ -34,7 +34,7 @@ impl From<AllocError> for NoWords {
     }
 }
 
-/// Returns the words after the program's name.
+/// Reads the words after the program's name. The error is `NoMemory` if out of memory, and `Unreadable` for any other reason.
 pub fn read_words(rt: &HostRuntime) -> Result<Vec<String>, NoWords> {
     Ok(env::args(rt)?.skip(1).collect(rt.alloc())?)
 }

@@ -1,7 +1,7 @@
 //! The program again, for a stored run of a study (`args`, `stdin`, `stdout`, `data`).
 //!
-//! The run begins with a file of looks that the release before this one has made, and that holds one record. It shows that the
-//! store at the path that the words name is opened, and that what it holds is read.
+//! The run begins with a file of looks that the release before this one made, and that holds one record. It shows that the
+//! store at the path that the words name is opened, and that what this store holds is read.
 #![tactic(auto)]
 
 use std::process::ExitCode;

@@ -21,7 +21,7 @@ pub fn bounds_exist()
     ensures closed { ClosedTablesGiveClosedBounds }
 {}
 
-/// What a bound says of subsets.
+/// A bound is at most the size of the set. Each subset with more members than this size minus the bound is rejected.
 pub fn bounds_count_true_discoveries()
     ensures { LargeSubsetsAreRejected }
 {}

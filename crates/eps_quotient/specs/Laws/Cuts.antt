@@ -28,7 +28,7 @@ pub record IsCut (p q c : List ℤ) (h z : ℕ) : Type 0 where
   pub some : IsNonZero q
   pub held : IsPolynomial q
 
--- the same, where the core of q is known
+-- p is c times q in this way, and q has this core
 pub record IsCutTo (p q c : List ℤ) (h z : ℕ) (left : List ℤ) : Type 0 where
   pub cut : IsCut p q c h z
   pub core_of : core q ≡ left

@@ -19,7 +19,8 @@ pub fn sets_are_numbers()
     ensures numbers { NumbersAreOfSets }
 {}
 
-/// How the size of a set changes, and that a subset has all members or lacks one.
+/// Dropping a member of a set lowers its size by one, adding another hypothesis raises it by one, and the set of all `m`
+/// hypotheses has the size `m`. A subset is no larger than its set, and has all of its members or lacks one.
 pub fn sizes_count_members()
     ensures dropping { DroppingTakesOne }
     ensures adding { AddingGivesOne }

@@ -14,7 +14,7 @@ use discovery_bound::Bounds;
 use report::bounds_text;
 use std::alloc::Global;
 
-/// Answers `bounds` to a case.
+/// Returns the answer of `bounds` for a case.
 #[tactic(auto, unfolding(crate::specs::Bounds::bounds_stage))]
 pub fn bounds_answer(alloc: Global, case: &Case) -> Result<Answer, Trouble>
     requires single { IsOfKind Single (content case.now).inputs }

@@ -23,7 +23,7 @@ fn sheet_answer(alloc: Global, case: &Case) -> Result<Answer, Trouble>
     Ok(Answer::done(write_csv(alloc, case)?))
 }
 
-/// Answers `canon` to a case: its canonical document in a format.
+/// Returns the answer of `canon` for a case: its canonical document in a format.
 #[tactic(auto, unfolding(crate::specs::Canon::canon_stage))]
 pub fn canon_answer(alloc: Global, case: &Case, format: Format) -> Result<Answer, Trouble>
     ensures { Meets (canon_stage format (content case.now)) result }

@@ -1,4 +1,4 @@
-//! What isn't made of sizes and seeds.
+//! Refusals of sizes and seeds from which no case is made.
 ghost use Rattle.std.specs.Prelude.{IfOk};
 ghost use Rattle.graph_cli.specs.Catalogue.{IsToldAs};
 
@@ -8,7 +8,9 @@ use field_core::NoMemory;
 use refusals::{case_refusal, seed_refusal, size_refusal};
 use std::alloc::Global;
 
-/// Returns the refusal of a fault of a case of a number of hypotheses.
+/// Returns the refusal that reports why no case of `size` hypotheses was made.
+///
+/// `NoMemory` if the fault is that, or if out of memory.
 pub fn fault_refusal(alloc: Global, size: u64, fault: &CatalogueFault) -> Result<Refusal, NoMemory>
     ensures { IfOk result (IsToldAs size fault.now) }
 {

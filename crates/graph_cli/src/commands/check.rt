@@ -50,7 +50,7 @@ fn answer_to(
     }
 }
 
-/// Answers `check` to a case and the text of evidence.
+/// Returns the answer of `check` for a case and the text of evidence.
 #[tactic(auto, unfolding(crate::specs::Check::check_stage))]
 pub fn check_answer(alloc: Global, case: &Case, bytes: &[u8]) -> Result<Answer, Trouble>
     requires { IsOfKind Single (content case.now).inputs }

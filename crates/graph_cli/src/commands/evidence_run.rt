@@ -33,7 +33,7 @@ fn flown(alloc: Global, case: &Case, decision: &Decision) -> Result<Evidence, Tr
     }
 }
 
-/// Writes the text of the evidence of a flow run, which `check` says yes to.
+/// Writes the text of the evidence of a flow run, on which the verdict of the check is yes.
 fn confirmed(
     alloc: Global,
     case: &Case,
@@ -52,8 +52,8 @@ fn confirmed(
     }
 }
 
-/// Answers `evidence` to a case: the decision comes first, then the flow run along its steps. What the run gives is printed
-/// only if `check` says yes to it.
+/// Returns the answer of `evidence` for a case. The decision comes first, then the flow run along its steps; its evidence is
+/// printed only if the verdict of the check on it is yes.
 #[tactic(auto, unfolding(crate::specs::Evidence::evidence_stage))]
 pub fn evidence_answer(alloc: Global, case: &Case, priority: Priority) -> Result<Answer, Trouble>
     requires { IsOfKind Single (content case.now).inputs }

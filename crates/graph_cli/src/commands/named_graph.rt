@@ -41,7 +41,7 @@ fn named_case(alloc: Global, graph: SizedGraph) -> Result<Case, CatalogueFault>
     }
 }
 
-/// Answers `catalogue`: the canonical text of the case of a named graph.
+/// Returns the answer of `catalogue`: the canonical text of the case of a named graph.
 #[tactic(auto, unfolding(crate::specs::Graphs::catalogue_stage))]
 pub fn catalogue_answer(alloc: Global, graph: SizedGraph) -> Result<Answer, Stop>
     ensures { EndsIn (over_values (catalogue_stage graph)) result }

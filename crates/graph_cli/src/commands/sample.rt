@@ -15,7 +15,7 @@ use report::sample_text;
 use sequential::{Priority, decide};
 use std::alloc::Global;
 
-/// Decides a sample of a seed with the priority `first`.
+/// Decides a sample with the priority `first`, and returns the report of both; `seed` is the seed of the sample.
 fn decided_sample(alloc: Global, case: &Case, seed: u64) -> Result<Answer, Trouble>
     requires { IsOfKind Single (content case.now).inputs }
     ensures { Meets (decided_sample seed (content case.now)) result }
@@ -27,7 +27,7 @@ fn decided_sample(alloc: Global, case: &Case, seed: u64) -> Result<Answer, Troub
     Ok(Answer::done(sample_text(alloc, case, seed, &decision)?))
 }
 
-/// Answers `sample`: a sample is made, and decided.
+/// Returns the answer of `sample`: a sample is made, decided and reported.
 #[tactic(auto, unfolding(crate::specs::Sample::sample_stage))]
 pub fn sample_answer(alloc: Global, size: u64, seed: u64) -> Result<Answer, Stop>
     ensures { EndsIn (over_values (sample_stage size seed)) result }

@@ -15,7 +15,7 @@ use report::simes_text;
 use simes_test::{SimesTable, leaders};
 use std::alloc::Global;
 
-/// Answers `simes` to a case: the weights of all sets come first, then their sums.
+/// Returns the answer of `simes` for a case: the weights of all sets come first, then their sums.
 #[tactic(auto, unfolding(crate::specs::Simes::simes_stage))]
 pub fn simes_answer(alloc: Global, case: &Case) -> Result<Answer, Trouble>
     requires single { IsOfKind Single (content case.now).inputs }

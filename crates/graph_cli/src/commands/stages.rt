@@ -12,7 +12,7 @@ use report::stages_text;
 use staged_levels::looks;
 use std::alloc::Global;
 
-/// Answers `stages` to a case.
+/// Returns the answer of `stages` for a case.
 #[tactic(auto, unfolding(crate::specs::Stages::stages_stage))]
 pub fn stages_answer(alloc: Global, case: &Case) -> Result<Answer, Trouble>
     requires { IsOfKind Staged (content case.now).inputs }

@@ -13,7 +13,7 @@ use report::test_text;
 use sequential::{Priority, decide};
 use std::alloc::Global;
 
-/// Answers `test` to a case: the decision comes first, then the adjusted values.
+/// Returns the answer of `test` for a case: the decision comes first, then the adjusted values.
 #[tactic(auto, unfolding(crate::specs::Test::test_stage))]
 pub fn test_answer(alloc: Global, case: &Case, priority: Priority) -> Result<Answer, Trouble>
     requires { IsOfKind Single (content case.now).inputs }

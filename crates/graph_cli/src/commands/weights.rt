@@ -11,7 +11,7 @@ use closed_test::WeightTable;
 use report::weights_text;
 use std::alloc::Global;
 
-/// Answers `weights` to a case.
+/// Returns the answer of `weights` for a case.
 #[tactic(auto, unfolding(crate::specs::Weights::weights_stage))]
 pub fn weights_answer(alloc: Global, case: &Case) -> Result<Answer, Trouble>
     requires { length (content case.now).names ≤ 16 }

@@ -6,7 +6,7 @@ use std::process::Abort;
 /// Numerator and denominator, in lowest terms.
 pub type Terms = (i128, i128);
 
-/// Fails the test, with the text, where something doesn't hold of it.
+/// Asserts that something holds for a text, which a failure names.
 pub fn expect(rt: &impl Abort, holds: bool, text: &str) {
     assert!(rt; holds, "{text}");
 }

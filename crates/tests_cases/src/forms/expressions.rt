@@ -80,7 +80,7 @@ const FAULTS: &[(ExprFault, &[&str])] = &[
     ),
     (ExprFault::BadByte(9), &["\\epsilon 2", "\\epsilon^"]),
     (ExprFault::BadByte(10), &["\\epsilon^2.5", "\\epsilon^22"]),
-    // Values that there are not.
+    // Expressions whose values are refused.
     (
         ExprFault::DivisorNotNumber,
         &["1/\\epsilon", "0/\\epsilon", "1/(1+\\epsilon)"],
@@ -197,7 +197,7 @@ const PRINTED: &[(&str, &str)] = &[
     ),
 ];
 
-/// Whether the entry of an expression is printed so.
+/// Whether the entry of an expression is printed as this text.
 fn is_printed(alloc: Global, expression: &str, text: &str) -> bool {
     let Ok(entry) = read_entry(expression.as_bytes()) else {
         return false;

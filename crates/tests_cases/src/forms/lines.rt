@@ -89,7 +89,7 @@ fn words_are_counted(rt: HostRuntime) {
     assert!(rt; Words::new(b"a b c d").three().is_none());
 }
 
-/// Lines, and what follows `edge` where that is the first word.
+/// Lines, and what follows `edge` if that is the first word.
 const BEHIND: &[(&str, Option<&str>)] = &[
     (" edge a b", Some(" a b")),
     ("edge", Some("")),
@@ -99,7 +99,7 @@ const BEHIND: &[(&str, Option<&str>)] = &[
     ("", None),
 ];
 
-/// Whether this follows `edge` in a line.
+/// Whether this follows the first word `edge` of a line; if `None`, whether the first word is another.
 fn is_behind_edge(text: &str, rest: &Option<&str>) -> bool {
     let line = Line {
         number: 1,

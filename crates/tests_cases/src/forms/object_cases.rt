@@ -1,6 +1,6 @@
-//! Documents that say cases, by hand.
+//! Documents that denote cases, by hand.
 
-/// Documents that say cases, with the numbers of their hypotheses and components.
+/// Documents that denote cases, with the numbers of their hypotheses and components.
 pub const CASES: &[(&str, usize, usize)] = &[
     (
         r#"{"alpha":"0.025","hypotheses":["H1"],"p":["0.01"],"components":[{"weights":[1],"edges":[]}]}"#,
@@ -60,7 +60,7 @@ pub const CASES: &[(&str, usize, usize)] = &[
     ),
 ];
 
-/// Documents that say cases, and the JSON of these cases.
+/// Documents that denote cases, and the JSON of these cases.
 pub const WRITTEN: &[(&str, &str)] = &[
     (
         r#"{"alpha":"0.025","hypotheses":["H1","H2"],"p":["1e-4","3/100"],"components":[{"weights":["1/2","0.5"],"edges":[{"from":"H2","to":"H1","weight":1},{"from":"H1","to":"H2","weight":"1 - \\epsilon"},{"from":"H1","to":"H1","weight":0}]}]}"#,

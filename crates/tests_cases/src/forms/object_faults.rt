@@ -11,7 +11,7 @@ pub enum Kind {
     Number(NumberFault),
     UnknownName,
     Expr(ExprFault),
-    /// The values stand, and the draft has this fault.
+    /// The values are allowed, and the draft has this fault.
     Draft(CaseFault),
 }
 

@@ -1,4 +1,4 @@
-//! Small documents by hand: those with a fault and its path, and those that say cases.
+//! Small documents by hand: those with a fault and its path, and those that denote cases.
 use crate::forms::checks::expect;
 use crate::forms::object_cases::{CASES, WRITTEN};
 use crate::forms::object_faults::{Kind, NOT_WHOLE, REFUSED, SHAPES, SYNTAX, UNKNOWN_NAMES};
@@ -7,7 +7,7 @@ use field_core::List;
 use std::alloc::Global;
 use std::process::Abort;
 
-/// Returns the path of a fault; empty where it has none.
+/// Returns the path of a fault, empty if it has none.
 fn path_of(fault: &JsonFault) -> &[u8] {
     match fault {
         JsonFault::Shape(path) => path.as_bytes(),
@@ -87,7 +87,7 @@ fn documents_say_cases(rt: HostRuntime) {
     }
 }
 
-/// Returns the JSON of the case that a document says.
+/// Returns the JSON of the case that a document denotes.
 fn rewritten(alloc: Global, document: &str) -> Option<List<u8>> {
     let case = read_json(alloc, document.as_bytes()).ok()?;
     write_json(alloc, &case).ok()

@@ -16,7 +16,7 @@ fn read(alloc: Global, sheet: &[u8]) -> Result<Case, CsvFault> {
     read_csv(alloc, sheet, alpha)
 }
 
-/// Returns the sheet of the case that a sheet says.
+/// Returns the sheet that is written of the case that a sheet denotes.
 fn rewritten(alloc: Global, sheet: &[u8]) -> Option<List<u8>> {
     let case = read(alloc, sheet).ok()?;
     if !fits_sheet(&case) {
@@ -25,7 +25,7 @@ fn rewritten(alloc: Global, sheet: &[u8]) -> Option<List<u8>> {
     write_csv(alloc, &case).ok()
 }
 
-/// Whether a sheet denotes a case, of which this is written.
+/// Whether a sheet denotes a case, and this is the sheet that is written of the case.
 fn is_rewritten(alloc: Global, sheet: &[u8], written: &[u8]) -> bool {
     match rewritten(alloc, sheet) {
         Some(again) => again.as_slice() == written,
@@ -36,7 +36,7 @@ fn is_rewritten(alloc: Global, sheet: &[u8], written: &[u8]) -> bool {
 /// What is written of one hypothesis with all the weight and a p-value.
 const ONE: &str = "hypothesis,weight,p,H1\nH1,1,1/100,0\n";
 
-/// The same with no p-value.
+/// The same as `ONE`, but with no p-value.
 const BARE: &str = "hypothesis,weight,p,H1\nH1,1,,0\n";
 
 /// What is written of two hypotheses.
@@ -208,7 +208,7 @@ const ROWS: &[(&str, usize, usize, RowKind)] = &[
     (",weight,p,H1,H2\nH1,1,,0,0\nH2,0,,-,x\n", 3, 4, BROKEN),
 ];
 
-/// Sheets whose records stand, and whose draft is refused.
+/// Sheets whose records are all allowed, and whose draft is refused.
 const DRAFTS: &[(&str, CaseFault)] = &[
     (",weight,p\n", CaseFault::NoHypothesis),
     (
@@ -245,7 +245,7 @@ fn records_are_refused(rt: HostRuntime) {
     }
 }
 
-/// Whether each record stands, and the draft has this fault.
+/// Whether each record is allowed, and the draft has this fault.
 fn has_draft_fault(alloc: Global, sheet: &[u8], fault: CaseFault) -> bool {
     match read(alloc, sheet) {
         Err(CsvFault::Case(refused)) => refused.fault == fault,

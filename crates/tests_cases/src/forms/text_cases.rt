@@ -297,7 +297,7 @@ pub struct HeldStages {
     pub arrivals: &'static [(usize, usize, Terms)],
 }
 
-/// Texts with stages, and what they say of them.
+/// Texts with stages, and what the stages hold.
 pub const STAGED: &[(&str, HeldStages)] = &[
     // Arrivals keep their order.
     (

@@ -1,4 +1,4 @@
-//! Texts of which each line stands, and whose draft is refused.
+//! Texts whose lines are all allowed, and whose draft is refused.
 use case_model::{CaseFault, PartPlace};
 use field_core::{Op, Place, WideAt};
 

@@ -1,4 +1,4 @@
-//! Texts by hand: those with a line that isn't allowed, those whose drafts are refused, and those that say cases.
+//! Texts by hand: those with a line that isn't allowed, those whose drafts are refused, and those that denote cases.
 ghost use Rattle.std.specs.Prelude.{◌<◌};
 
 use crate::forms::checks::{Terms, expect, has_coefficients, has_terms, have_terms};
@@ -15,7 +15,7 @@ use field_core::Text;
 use std::alloc::Global;
 use std::process::Abort;
 
-// ---- lines that isn't allowed
+// ---- lines that aren't allowed
 
 /// Whether the first line that isn't allowed is that of this number, for this kind of fault.
 fn has_fault(alloc: Global, text: &str, number: usize, kind: LineKind) -> bool {
@@ -71,7 +71,7 @@ fn are_named(names: &[Text], wanted: &[&str]) -> bool {
     names.len() == wanted.len()
 }
 
-/// Whether each line stands, and the draft is refused for its fault, with its names.
+/// Whether each line is allowed, and the draft is refused for its fault, with its names.
 fn is_refused(alloc: Global, row: &RefusedText) -> bool {
     match read_text(alloc, row.text.as_bytes()) {
         Err(TextFault::Case(Refused { names, fault })) => {
@@ -90,7 +90,7 @@ fn drafts_are_refused(rt: HostRuntime) {
 
 // ---- cases
 
-/// Returns the weight that is listed of an edge, or nothing.
+/// Returns the coefficients that are listed for an edge, none if it isn't listed.
 fn listed(edges: &[Edge], from: usize, to: usize) -> &[Terms] {
     for (start, end, weight) in edges {
         if *start == from && *end == to {
@@ -130,7 +130,7 @@ fn has_components(case: &Case, components: &[HeldComponent]) -> bool {
     case.components() == components.len()
 }
 
-/// Whether these are the p-values; none where there is none.
+/// Whether the inputs are exactly these p-values, of no stages; if there are none, `p` is empty.
 fn are_p_values(inputs: &Inputs, p: &[Terms]) -> bool {
     match inputs {
         Inputs::Bare => p.is_empty(),

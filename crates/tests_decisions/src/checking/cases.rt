@@ -1,7 +1,7 @@
 //! Cases, and evidence for them.
 pub use crate::cases::{IMPROVED_GATEKEEPING as GATEKEEPING, SEQUENCE as FIXED, case_of, expect};
 
-/// Evidence for a fixed sequence of three hypotheses, of which the second is kept.
+/// Evidence for a fixed sequence of three hypotheses, of which the second and the third are retained.
 pub const FIXED_EVIDENCE: &str = "evidence 2\n\
     step H1\n\
     keep H2\n\

@@ -13,7 +13,7 @@ use sequential::is_single;
 use std::alloc::Global;
 use std::process::Abort;
 
-/// Returns what the checker answers to a document, if it can be read.
+/// Returns the answer of the checker to a document, if the document can be read.
 fn checked(
     rt: &impl Abort,
     alloc: Global,
@@ -111,7 +111,7 @@ fn documents_say_exits(rt: HostRuntime) {
     assert!(&rt; third.as_slice() == [Fraction::zero()].as_slice());
 }
 
-/// Whether evidence does not fit a case of another form, nor one with other hypotheses left.
+/// Whether evidence fits its case, but no case of another form, and doesn't fit if keeps of version 2 are missing.
 #[test]
 fn evidence_fits_its_case(rt: HostRuntime) {
     let fixed = case_of(&rt, rt.alloc(), FIXED);

@@ -32,7 +32,7 @@ const ENTANGLED_EVIDENCE: &str = "evidence 2\n\
     exit 2 H3 7\n\
     end\n";
 
-/// Blanks, comments and common factors, which go.
+/// Blanks, comments and common factors, which aren't written again.
 const SPACED: &str = "# all four\n\
     evidence  2\n\
     \n\
@@ -63,7 +63,7 @@ const WRITTEN: &[(&str, &str, &str)] = &[
     (FIXED, VERSION_1, VERSION_1),
 ];
 
-/// Returns the text of what a document says.
+/// Returns the text that is written of the evidence that a document denotes.
 fn rewritten(rt: &impl Abort, alloc: Global, case: &str, document: &str) -> List<u8> {
     let case = case_of(rt, alloc, case);
     let Ok(proof) = read(alloc, &case, document.as_bytes()) else {

@@ -1,4 +1,4 @@
-//! Rows beside the net of quotients that they stand for, removal by removal.
+//! Rows compared with the net of quotients that they denote, removal by removal.
 ghost use Rattle.std.specs.Prelude.{◌<◌, length};
 ghost use Rattle.case_model.specs.CaseView.{content};
 
@@ -157,7 +157,7 @@ fn have_equal_edges(rows: &RowNet, quotients: &Net<EpsQuotient>, l: usize) -> bo
     true
 }
 
-/// Whether both have the same hypotheses in, with equal weights and equal edges.
+/// Whether the same hypotheses remain in both, with equal weights and equal edges.
 fn are_same(rows: &RowNet, quotients: &Net<EpsQuotient>) -> bool {
     for k in 0..rows.size() {
         if !are_equal(weight_of(rows, k), weight_of(quotients, k))
@@ -169,7 +169,7 @@ fn are_same(rows: &RowNet, quotients: &Net<EpsQuotient>) -> bool {
     rows.size() == quotients.size()
 }
 
-/// Rows and quotients stay the same while the hypotheses of a case are removed in this order.
+/// Asserts that rows and quotients stay the same while the hypotheses of a case are removed in this order.
 fn expect_same(rt: &impl Abort, alloc: Global, text: &str, order: &[usize]) {
     let case = case_of(rt, alloc, text);
     assert!(rt; !case.is_plain());

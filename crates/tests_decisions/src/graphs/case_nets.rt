@@ -9,7 +9,7 @@ use removal::Remover;
 use std::alloc::Global;
 use std::process::Abort;
 
-/// A case, the hypotheses that are removed in turn, and the level of each then, none where it was removed.
+/// A case, the hypotheses that are removed in turn, and the level of each then, `None` if it was removed.
 struct Row<'a> {
     case: &'a str,
     removed: &'a [usize],
@@ -108,7 +108,7 @@ const ROWS: &[Row] = &[
     },
 ];
 
-/// Returns the nets of a case, with all hypotheses in.
+/// Returns the nets of a case, in which all hypotheses remain.
 pub fn opened(rt: &impl Abort, alloc: Global, text: &str) -> CaseNet {
     let Ok(nets) = CaseNet::load(alloc, &case_of(rt, alloc, text)) else {
         panic!(rt; "not opened");
@@ -116,7 +116,7 @@ pub fn opened(rt: &impl Abort, alloc: Global, text: &str) -> CaseNet {
     nets
 }
 
-/// Removes `j`, which remains.
+/// Removes the remaining hypothesis `j`.
 pub fn remove(rt: &impl Abort, nets: &mut CaseNet, j: usize) -> Result<(), WideAt> {
     assert!(rt; j < nets.size());
     assert!(rt; nets.is_live(j));
@@ -132,7 +132,7 @@ fn after(rt: &impl Abort, alloc: Global, text: &str, removed: &[usize]) -> CaseN
     nets
 }
 
-/// Returns the level of `k`, or none where it was removed.
+/// Returns the level of `k`, or `None` if it was removed.
 fn level_of(nets: &CaseNet, k: usize) -> Option<Terms> {
     if k < nets.size() && nets.is_live(k) {
         let level = nets.weight_limit(k).ratio();
@@ -158,7 +158,7 @@ fn removals_leave_these_levels(rt: HostRuntime) {
     }
 }
 
-/// Returns the number of nets and the size of the first, where they are of fractions.
+/// Returns the number of nets and the size of the first, if they are of fractions.
 fn plain_nets(nets: &CaseNet) -> Option<(usize, usize)> {
     match nets {
         CaseNet::Plain(bundle) if bundle.components() > 0 => {

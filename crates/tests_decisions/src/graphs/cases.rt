@@ -1,4 +1,4 @@
-//! Cases without p-values, as texts say them.
+//! Cases without p-values, which texts denote.
 pub use crate::cases::{case_of, expect};
 
 /// A numerator and a denominator.

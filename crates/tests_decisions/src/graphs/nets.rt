@@ -11,7 +11,7 @@ use removal::{Net, Remover};
 use std::alloc::Global;
 use std::process::Abort;
 
-/// A graph, the hypotheses that are removed in turn, the weights then (none where one was removed), and some edges.
+/// A graph, the hypotheses that are removed in turn, the weights then (`None` if one was removed), and some edges.
 struct Row<'a> {
     case: &'a str,
     removed: &'a [usize],
@@ -93,7 +93,7 @@ const CHAIN_OF_TWO: &Row = &Row {
     edges: &[(2, 3, (1, 999_999_999_999_999_997)), (3, 2, (0, 1))],
 };
 
-/// Returns the net of a graph, with all hypotheses in.
+/// Returns the net of a graph, in which all hypotheses remain.
 fn opened(rt: &impl Abort, alloc: Global, text: &str) -> Net<Fraction> {
     let case = case_of(rt, alloc, text);
     assert!(rt; case.is_plain());
@@ -168,7 +168,7 @@ fn a_removal_that_is_too_wide_changes_nothing(rt: HostRuntime) {
     expect_row(&rt, &net, CHAIN_OF_TWO);
 }
 
-/// Prepares the removal of `j`, and gives the limit of the weight that `k` then has.
+/// Prepares the removal of `j`, and returns the limit of the weight that `k` then has.
 fn prepare<R: Remover>(rt: &impl Abort, net: &mut R, j: usize, k: usize) -> Result<Ratio, Wide>
     ensures present { R.present net.new ≡ R.present net.old }
     ensures prepared { OnOk result (IsSome (R.prepared net.new)) }

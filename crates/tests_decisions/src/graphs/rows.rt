@@ -8,7 +8,7 @@ use row_removal::RowNet;
 use std::alloc::Global;
 use std::process::Abort;
 
-/// A graph, the hypotheses that are removed in turn, the weights then (none where one was removed), and some edges.
+/// A graph, the hypotheses that are removed in turn, the weights then (`None` if one was removed), and some edges.
 struct Row<'a> {
     case: &'a str,
     removed: &'a [usize],
@@ -85,8 +85,8 @@ const POLYNOMIAL: &str = "alpha 0.05\n\
     edge B A \\epsilon\n\
     edge C D 1/2\n";
 
-/// All that A has continues, and F gets half of it. Each pair has e^4 below its rows: not taken out, e^40 would stand
-/// below the weights in the end.
+/// All that A has continues, and F gets half of it. Each pair has e^4 in the denominators of its rows; if it weren't divided
+/// out, e^40 would be in the denominators of the weights in the end.
 const POWERS: &str = "alpha 0.05\n\
     hypotheses A B C D E F\n\
     weights 1 0 0 0 0 0\n\
@@ -98,7 +98,7 @@ const POWERS: &str = "alpha 0.05\n\
     edge D E \\epsilon^4\n\
     edge E F 1/2\n";
 
-/// The rows of hypotheses without weight: not taken out, their denominators would stand below the weights, with 54 digits.
+/// The rows of hypotheses without weight: if their denominators weren't divided out, those of the weights would have 54 digits.
 const CONTENT: &str = "alpha 0.05\n\
     hypotheses A B C D\n\
     weights 0 0 0 1\n\
@@ -107,7 +107,7 @@ const CONTENT: &str = "alpha 0.05\n\
     edge C D 1/999999999999999997\n\
     edge D A \\epsilon\n";
 
-/// Returns the rows of a graph, with all hypotheses in.
+/// Returns the rows of a graph, in which all hypotheses remain.
 fn opened(rt: &impl Abort, alloc: Global, text: &str) -> RowNet {
     let case = case_of(rt, alloc, text);
     assert!(rt; case.components() > 0);

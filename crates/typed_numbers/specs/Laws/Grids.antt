@@ -116,7 +116,7 @@ rounded x q k hq is =
       high = near.1;
     }
 
--- it is at most 2 ^ 53, and at least 2 ^ 52 where digits were dropped
+-- the rounded number is at most 2 ^ 53, and at least 2 ^ 52 if digits were dropped
 not_large : (c u x v : ℕ) → 0 < u → v ≤ 1 → 2 * (c * u) < 2 * x + u + v → x < 2 ^ 53 * u → c ≤ 2 ^ 53
 not_large c u x v hu hv low most = elim (cases_lt (2 ^ 53) c) [
   | inl k ↦ absurd (let f = mul-le-mul_left {m = suc (2 ^ 53)} {n = c} u k in omega arith)

@@ -50,7 +50,7 @@ even_at_tie a u c m some r tie = elim (cases_order m c) [
   ]
 ]
 
--- it is in the interval unless it is below the least multiple there
+-- the nearest multiple is in the interval unless it is below the least multiple there
 inside_from : (low middle high ends unit f c : ℕ) → ends ≤ 1 → 2 * middle ≤ low + high → low < f * unit + ends → f * unit < high + ends
     → IsRounded middle unit c → f ≤ c → IsWithin low high ends unit c
 inside_from l a g v u f c few lopsided from to r h = elim (cases_lt f c) [
