@@ -113,6 +113,10 @@ impl Verb {
         ensures { result ≡ format_read self name.now }
     {
         let format = Format::named(name)?;
-        if self.reads(format) { Some(format) } else { None }
+        if self.reads(format) {
+            Some(format)
+        } else {
+            None
+        }
     }
 }

@@ -175,7 +175,11 @@ fn expect_study(
 ) -> Result<(), NoMemory> {
     let words = words_of(alloc, words)?;
     let read = match read_study(words.as_slice()) {
-        Ok(call) => Ok((matches!(&call.format, CaseFormat::Json), call.file, call.store)),
+        Ok(call) => Ok((
+            matches!(&call.format, CaseFormat::Json),
+            call.file,
+            call.store,
+        )),
         Err(n) => Err(n),
     };
     assert!(rt; read == wanted);
