@@ -1,5 +1,4 @@
 pub mod InPlace
-pub mod Quotients
 pub mod WrittenRows
 pub mod Given
 pub mod Opened
