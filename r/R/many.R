@@ -87,7 +87,7 @@ report_many_rounded <- function(P) {
 decided_doubles <- function(graph, level, P) {
   text <- case_text(graph, level)
   found <- .Call(C_welungad_rows, charToRaw(text), P)
-  if (found$status == 0L && all(found$statuses %in% c(0L, 5L))) return(found)
+  if (found$status == 0L && all(found$statuses %in% c(0L, 5L)) && !anyNA(found$rejected)) return(found)
   if (found$status == 5L) return(list(rejected = matrix(FALSE, nrow(P), ncol(P)), statuses = rep(5L, nrow(P))))
   if (found$status == 8L) stop("the C library is out of memory", call. = FALSE)
   ask("canon", handed(text, graph))

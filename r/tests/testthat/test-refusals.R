@@ -125,5 +125,8 @@ test_that("the proved call answers as the program prints", {
     case <- c("alpha 0.05", "hypotheses A", "p 0.01", "weights 1")
     expect_equal(welungad_run("test", case)$text, welungad_run("test", charToRaw(paste0(case, "\n", collapse = "")))$text)
     expect_error(welungad_run("test", 1), "a raw vector, a text or lines")
+    for (words in list(NA, c("test", NA), NA_character_)) expect_error(welungad_run(words), "words: a word is NA", fixed = TRUE)
+    for (wrong in list(NA, c("alpha 1", NA), NULL, list("x"))) expect_error(welungad_run("test", wrong), "case: a raw vector, a text or lines")
+    expect_error(welungad_run(c("check", "-"), "x", NA_character_), "proof: a raw vector, a text or lines")
   })
 })
