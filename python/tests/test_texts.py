@@ -224,6 +224,11 @@ class Results(unittest.TestCase):
             self.assertEqual((decision.alpha, decision.rejected), (Fraction(1, 20), ("A", "B")))
         self.assertEqual(welungad.test(sheet, form="csv", alpha=1 / 3).alpha, Fraction(1, 3))
 
+    def test_a_sheet_with_many_blanks(self):
+        sheet = lines_of(["hypothesis,weight,p," + 200000 * " " + "A\t,\" B\"", "A,1/2,0.02,0,1", "B,1/2,0.04,1,0"])
+        for given in [sheet, "\n\r\n" + sheet, sheet.replace("\n", "\r"), b"\xef\xbb\xbf" + sheet.encode()]:
+            self.assertEqual(welungad.test(given, form="csv", alpha="0.05").rejected, ("A", "B"))
+
     def test_weights(self):
         case = lines_of(["alpha 0.05", "hypotheses A B", "weights 1/2 1/4", "edge A B 1/2"])
         weights = welungad.weights(case)
@@ -307,6 +312,17 @@ class Refusals(unittest.TestCase):
             with self.subTest(options), self.assertRaises(welungad.Refused) as caught:
                 welungad.test(example("holm.txt"), **options)
             self.assertEqual(caught.exception.status, welungad.USAGE)
+
+    def test_a_form_that_is_none(self):
+        for call in (welungad.test, welungad.canon, welungad.weights):
+            with self.subTest(call), self.assertRaisesRegex(TypeError, "^form is a text, and not of type None$"):
+                call(example("holm.txt"), form=None)
+
+    def test_a_word_that_is_not_utf_8(self):
+        with self.assertRaises(welungad.Refused) as caught:
+            welungad.test(example("holm.txt"), form="\udcff")
+        self.assertEqual((caught.exception.status, caught.exception.line), (welungad.UNREADABLE_WORDS, ""))
+        self.assertEqual(str(caught.exception), "A word of the call is not UTF-8.")
 
     def test_a_level_that_the_text_has_itself(self):
         case = lines_of(["alpha 0.05", "hypotheses A", "p 0.01", "weights 1"])

@@ -26,9 +26,9 @@ rows_of_p <- function(P, graph) {
   if (!is.data.frame(P) && length(dim(P)) != 2) {
     stop_at("P", "a matrix is needed, with a row for each trial and a column for each hypothesis")
   }
-  P <- if (is_of_doubles(P)) matrix_of_doubles(P) else matrix_of_texts(P)
   n <- length(graph$names)
   if (ncol(P) != n) stop_at("P", whole_text(ncol(P)), " columns given for ", whole_text(n), " hypotheses")
+  P <- if (is_of_doubles(P)) matrix_of_doubles(P) else matrix_of_texts(P)
   given <- colnames(P)
   if (is.null(given) && any(rownames(P) %in% unlist(hypothesis_keys(graph)))) {
     stop_at("P", "its rows have the names of hypotheses, and its columns have none: a row is a trial")

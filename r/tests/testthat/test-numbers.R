@@ -205,3 +205,17 @@ test_that("doubles of long fractions are those of gmp", {
   longer <- paste0(strrep("9", 39), "/", strrep("9", 38), "7")
   expect_identical(welungad:::double_of(longer), welungad:::as_double(gmp::as.bigq(longer)))
 })
+
+test_that("a text whose bytes are not one is named", {
+  skip_if_not(l10n_info()[["UTF-8"]], "the locale is not UTF-8")
+  bytes <- "\xe9"
+  Encoding(bytes) <- "bytes"
+  each_way(function(way) {
+    for (wrong in c("0.5\xe9", bytes)) {
+      expect_error(as_exact(c("0.5", wrong)), "^x: the second is \".*\", whose bytes are not a text in its encoding$")
+      expect_error(graph_test(pair(), c(A = wrong, B = "0.5")), "^p: \"A\" is \".*\", whose bytes are not a text in its encoding$")
+      expect_error(graph_create(c("1/2", "1/2"), rbind(0:1, 1:0), hyp_names = c("A", wrong)), "^hyp_names: the second is ")
+    }
+    expect_equal(as_exact(iconv("0.5", "UTF-8", "latin1"))$read, "0.5")
+  })
+})
