@@ -1,7 +1,7 @@
 #!/bin/sh
-# Tests c/out/libwelungad.a and c/out/libwelungad.so, which c/build.sh makes: the names that they export, the soname, the header as
-# C and as C++, each call of test_calls.c and of test_numbers.c under valgrind, 10,000 hostile calls among them, the example, and
-# refused allocations. Ends with a status other than 0 if one fails.
+# Tests c/out/libwelungad.a and c/out/libwelungad.so, which c/build.sh makes: the names that they export and those that they take from
+# outside, that they have no variables, the soname, the header as C and as C++, each call of test_calls.c and of test_numbers.c under
+# valgrind, 10,000 hostile calls among them, the example, and refused allocations. Ends with a status other than 0 if one fails.
 set -eu
 here=$(dirname -- "$(readlink -f -- "$0")")
 top=$(dirname -- "$here")
@@ -36,6 +36,18 @@ watched() {
 [ "$(listed -D "$out/libwelungad.so")" = "$names" ] || fail "libwelungad.so exports $(listed -D "$out/libwelungad.so")"
 [ "$(listed -g "$out/libwelungad.a")" = "$names" ] || fail "libwelungad.a exports $(listed -g "$out/libwelungad.a")"
 readelf -d "$out/libwelungad.so" | grep -q 'soname: \[libwelungad.so.1\]' || fail "libwelungad.so has another soname"
+readelf -d "$out/libwelungad.so" | grep -q 'BIND_NOW' || fail "libwelungad.so does not bind its names when it is loaded"
+readelf -lW "$out/libwelungad.so" | grep -q 'GNU_RELRO' || fail "libwelungad.so leaves writable what is bound"
+for name in $(nm -u "$out/libwelungad.a" | awk 'NF == 2 { print $2 }'); do
+    case $name in
+    malloc | realloc | free | memcpy | memmove | memset | _GLOBAL_OFFSET_TABLE_) ;;
+    __*ti3) ;; # a division of 128 bits
+    *) fail "libwelungad.a takes $name from outside" ;;
+    esac
+done
+# The kit's allocation functions have a byte `nothing`, of which they use the address alone.
+variables=$(nm "$out/libwelungad.a" | awk 'NF == 3 && $2 ~ /[bBcCdD]/ && $3 != "nothing" { print $3 }')
+[ -z "$variables" ] || fail "libwelungad.a has the variables $variables"
 cc -x c -std=c99 -Wall -Wextra -Wpedantic -Werror -fsyntax-only "$here/welungad.h"
 cc -x c++ -std=c++11 -Wall -Wextra -Wpedantic -Werror -fsyntax-only "$here/welungad.h"
 
@@ -45,6 +57,9 @@ compiled test_numbers "$here/test_numbers.c" "$out/libwelungad.a" -lpthread
 compiled test_numbers_shared "$here/test_numbers.c" -L"$out" -lwelungad -Wl,-rpath,"$out" -lpthread
 compiled test_memory -Wl,--wrap=malloc,--wrap=realloc,--wrap=free "$here/test_memory.c" "$out/libwelungad.a"
 compiled decide "$here/examples/decide.c" "$out/libwelungad.a"
+c++ -std=c++11 -Wall -Wextra -Wpedantic -Werror -I"$here" -o "$out/test_header" "$here/test_header.cc" "$out/libwelungad.a" ||
+    fail "a program in C++ doesn't compile"
+"$out/test_header" || fail "a program in C++"
 watched "$out/test_calls" || fail "test_calls under valgrind"
 "$out/test_calls_shared" || fail "test_calls over libwelungad.so"
 watched "$out/test_numbers" 10000 || fail "test_numbers under valgrind"
@@ -53,3 +68,8 @@ watched "$out/test_numbers" 10000 || fail "test_numbers under valgrind"
 watched "$out/test_memory" 2>/dev/null || fail "test_memory under valgrind"
 watched "$out/decide" "$top/examples/holm.txt" >"$out/printed" || fail "the example under valgrind"
 grep -qx 'rejected H1 H2 H3' "$out/printed" || fail "the example prints something else"
+if [ -c /dev/full ]; then
+    status=0
+    "$out/decide" "$top/examples/holm.txt" >/dev/full 2>"$out/printed" || status=$?
+    [ "$status" -eq 125 ] || fail "the example ends with $status if its text cannot be written"
+fi

@@ -1,5 +1,6 @@
 /* Whether calls without memory end as welungad.h says: each allocation of a call is refused in turn, and then all from it on.
- * The status is WELUNGAD_NO_MEMORY with "no memory\n", or the call's own answer, and no block is left. Linked with --wrap. */
+ * The status is WELUNGAD_NO_MEMORY with "no memory\n", or the call's own answer, and no block is left. welungad_read allocates nothing.
+ * Linked with --wrap. */
 #include <stdio.h>
 #include <stdlib.h>
 #include <string.h>
@@ -130,6 +131,22 @@ static void try_rows(void) {
   fprintf(stderr, "rows: %ld allocations, %ld of %ld calls out of memory\n", count, out_of_memory, 2 * count);
 }
 
+/* Whether the call that reads doubles allocates nothing. */
+static void try_reading(void) {
+  const uint64_t bits[4] = {0x3fd5555555555555u, 0x3fd3333333333334u, 1, 0x7ff8000000000000u};
+  uint64_t words[16];
+  uint8_t status;
+  counting = 1;
+  refused = 0;
+  made = 0;
+  status = welungad_read(bits, 4, words, 16);
+  counting = 0;
+  if (status != WELUNGAD_DONE || words[2] != 3 || made) {
+    findings++;
+    fprintf(stderr, "read: status %d, %ld allocations\n", status, made);
+  }
+}
+
 int main(void) {
   static char proof[MOST];
   size_t length = 0;
@@ -144,6 +161,7 @@ int main(void) {
   try_call((struct call){"stages", 7, STAGED, "", 0});
   try_call((struct call){"canon\0--to\0json", 16, CASE, "", 0});
   try_rows();
+  try_reading();
   fprintf(stderr, "test_memory: %d findings\n", findings);
   return findings != 0;
 }

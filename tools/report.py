@@ -27,6 +27,7 @@ import shlex
 import shutil
 import subprocess
 import sys
+import unicodedata
 from fractions import Fraction
 from html import escape
 
@@ -38,6 +39,7 @@ from reports import NotAReport
 HERE = os.path.dirname(os.path.abspath(__file__))
 LARGE, MOST_EDGES = 620, 1000  # a wider picture has the whole width of the page; a graph of more edges is not drawn
 P_VALUE = '<span class="whole">p-value</span>'
+DIRECTIONS = {"R", "AL", "AN", "LRE", "RLE", "LRO", "RLO", "PDF", "LRI", "RLI", "FSI", "PDI"}
 
 STYLE = """
 :root { color-scheme: light; }
@@ -136,10 +138,22 @@ def code(text):
 # ---- the sections
 
 
+def has_direction(label):
+    """Whether a label has a letter of a script that is written from right to left, or a sign that turns the text beside it."""
+    return any(unicodedata.bidirectional(it) in DIRECTIONS for it in label)
+
+
 def label_of(findings, name):
     """The user's label of a hypothesis, with its name in the case if the two differ."""
     label = findings.labels[name]
-    return escape(label) if label == name else f"{escape(label)} <small>({escape(name)})</small>"
+    shown = f"<bdi>{escape(label)}</bdi>" if has_direction(label) else escape(label)
+    return shown if label == name else f"{shown} <small>({escape(name)})</small>"
+
+
+def plain_label(findings, name):
+    """The same in a text without markup, and without the name in the case."""
+    label = findings.labels[name]
+    return f"\u2068{label}\u2069" if has_direction(label) else label
 
 
 def labels_of(findings, names):
@@ -251,14 +265,14 @@ def described(findings, state):
     for i, name in enumerate(findings.names):
         if name in state.removed:
             continue
-        sentences.append(f"{findings.labels[name]} has the weight {state.weights[name]}")
+        sentences.append(f"{plain_label(findings, name)} has the weight {state.weights[name]}")
         for c, part in enumerate(state.case.components, 1):
             passed = [f"{draw.edge_text(edge)} to {state.case.names[j]}" for (k, j), edge in part.edges.items() if k == i]
             if passed and len(findings.names) <= 8:
                 place = f" in component {c}" if state.case.components[1:] else ""
                 sentences[-1] += f" and passes{place} {listed(passed)}"
         sentences[-1] += "."
-    gone = listed([findings.labels[name] for name in state.removed])
+    gone = listed([plain_label(findings, name) for name in state.removed])
     return " ".join([*([f"Rejected: {gone}."] if gone else []), *sentences]) or "No hypothesis is left."
 
 
@@ -268,7 +282,7 @@ def title_of(findings, n):
         return "The graph: no hypothesis is rejected"
     if len(findings.names) > MOST_PICTURES:
         return "Before the first rejection, with the step of each later one"
-    after = f"After step {n}: {findings.labels[findings.order[n - 1]]} is rejected" if n else "Before the first rejection"
+    after = f"After step {n}: {plain_label(findings, findings.order[n - 1])} is rejected" if n else "Before the first rejection"
     return after + (", the end" if n == len(findings.order) else "")
 
 

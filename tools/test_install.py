@@ -19,7 +19,7 @@ NOBODY = 65534
 IS_ROOT = os.geteuid() == 0
 
 # `rt run` builds a program that prints how often it was built and the number of its words, and `rt lib` the library of STUB. With
-# EDIT, the sources are edited while they build.
+# EDIT, the sources are edited while they build; with FAIL, those of the library are not proved.
 RT = """#!/bin/sh
 case $1 in
 version) echo a-kit logic 1 ;;
@@ -32,6 +32,7 @@ run)
     ;;
 lib)
     echo built >>out/builds
+    if [ -n "${FAIL-}" ]; then echo "not proved"; exit 1; fi
     cc -fPIC -c -o out/stub.o "$(dirname "$(readlink -f "$0")")/stub.c" && ar rcs out/libwelungad_c.a out/stub.o
     ;;
 esac
@@ -213,13 +214,13 @@ class Room(unittest.TestCase):
         for word in words:
             self.assertIn(word, done[2])
 
-    def without_git(self):
-        """Returns a path on which all programs are but git."""
-        folder = self.path("no git")
+    def path_without(self, *beginnings):
+        """Returns a path on which all programs are but those whose names begin so."""
+        folder = self.path(f"no {beginnings[0]}")
         os.makedirs(folder)
         for place in ("/bin", "/usr/bin"):
             for name in os.listdir(place):
-                if not name.startswith("git") and not os.path.lexists(os.path.join(folder, name)):
+                if not name.startswith(beginnings) and not os.path.lexists(os.path.join(folder, name)):
                     os.symlink(os.path.join(place, name), os.path.join(folder, name))
         return f"{self.path('kit', 'bin')}:{folder}"
 
@@ -289,7 +290,7 @@ class Program(Room):
 
     def test_no_git(self):
         """Whether a checkout without git's folder, and one on a machine without git, is built again when its sources change."""
-        for count, path in ((1, self.environment["PATH"]), (3, self.without_git())):
+        for count, path in ((1, self.environment["PATH"]), (3, self.path_without("git"))):
             for number in (count, count + 1):
                 self.assertEqual(self.run_script("welungad", PATH=path)[:2], (0, f"{number} 0\n"))
                 self.assertEqual(self.run_script("welungad", PATH=path), (0, f"{number} 0\n", ""))
@@ -330,7 +331,7 @@ class Program(Room):
     def test_not_built(self):
         """Whether each script says in a line what it lacks: the program, rt, or a folder that can be written."""
         self.is_refused(self.run_script("install", self.path("prefix")), "run ./welungad help first")
-        path = self.without_git().partition(":")[2]
+        path = self.path_without("git").partition(":")[2]
         self.is_refused(self.run_script("welungad", PATH=path), "rt isn't on the path", status=125)
         self.is_refused(self.run_script("c/build.sh", PATH=path), "rt isn't on the path")
         self.is_refused(self.run_script("unproved", "help", PATH=path), "rt isn't on the path", status=125)
@@ -707,20 +708,42 @@ class Library(Room):
         self.assertEqual(self.run_script("c/build.sh", "--force")[0], 0)
         self.assertEqual(self.builds(), 9)
 
+    def test_edited_meanwhile(self):
+        """Whether an edit during the build is found."""
+        self.assertEqual(self.run_script("c/build.sh", EDIT="yes")[0], 0)
+        with open(self.out("stamp"), encoding="utf-8") as file:
+            self.assertIn("built edited\n", file.read())
+        self.git("checkout", "-q", ".")
+        self.git("clean", "-fdq")
+        self.assertEqual([self.builds(), self.builds()], [2, 2])
+
+    def test_not_proved(self):
+        """Whether nothing is built of what isn't proved, also beside what was built before, and a later build is whole."""
+        for number, text in enumerate(("more\n", "other\n", "and more\n"), 1):
+            self.write("crates/welungad_c/src/lib.rt", text)
+            self.commit()
+            done = self.run_script("c/build.sh", FAIL="yes")
+            self.assertEqual((done[0], done[1]), (1, ""))
+            self.assertTrue(done[2].endswith("\nnot proved\n"), done[2])
+            self.assertFalse(os.path.exists(self.out("stamp")))
+            self.assertEqual(self.builds(), 2 * number)
+        self.assertEqual([name for name in os.listdir(self.out()) if name.startswith("new.")], [])
+
     def test_exports(self):
         """Whether five names are global in both files, the soname has the interface, and a caller may hand in NULL for no bytes."""
+        self.write("VERSION", "9.9.9\n")
         self.builds()
         for words in (["-D", self.out("libwelungad.so")], ["-g", self.out("libwelungad.a")]):
             names = re.findall(r" [A-Z] (\S+)", self.call(["nm", "--defined-only", *words])[1])
             self.assertEqual(sorted(names), EXPORTED)
         self.assertIn("[libwelungad.so.1]", self.call(["readelf", "-d", self.out("libwelungad.so")])[1])
         self.assertEqual(os.readlink(self.out("libwelungad.so")), "libwelungad.so.1")
-        self.assertEqual(os.readlink(self.out("libwelungad.so.1")), f"libwelungad.so.{content('VERSION').strip()}")
+        self.assertEqual(os.readlink(self.out("libwelungad.so.1")), "libwelungad.so.9.9.9")
         self.write("caller.c", CALLER)
         caller = self.path("caller")
         done = self.call(["cc", f"-I{self.top}/c", "-o", caller, f"{self.top}/caller.c", self.out("libwelungad.a")])
         self.assertEqual(done, (0, "", ""))
-        self.assertEqual(self.call([caller]), (0, f"{content('VERSION').strip()} 1\n", ""))
+        self.assertEqual(self.call([caller]), (0, "9.9.9 1\n", ""))
 
     @unittest.skipUnless(shutil.which("pkg-config"), "pkg-config is missing")
     def test_pkg_config(self):
@@ -738,6 +761,28 @@ class Library(Room):
         self.assertEqual(self.call(["sh", "-c", compiled], where=self.path("elsewhere"), **more), (0, "", ""))
         self.assertEqual(self.call(["./caller"], where=self.path("elsewhere"), **more)[1], f"{content('VERSION').strip()} 1\n")
         self.assertEqual(self.call(["pkg-config", "--modversion", "welungad"], **more)[1], content("VERSION"))
+
+
+    def test_linked_by_r(self):
+        """Whether R links and loads the library that r/configure looked at, also if others of its name come before it."""
+        self.builds()
+        self.run_script("welungad")
+        prefix, others = self.path("a prefix"), self.path("others")
+        self.assertEqual(self.run_script("install", prefix)[0], 0)
+        os.remove(os.path.join(prefix, "lib", "libwelungad.a"))
+        os.makedirs(others)
+        self.write("other.c", 'const char *welungad_version(void) { return "another"; }\n')
+        self.write("caller.c", '#include <stdio.h>\n#include <welungad.h>\nint main(void) { return puts(welungad_version()) < 0; }\n')
+        made = ["-Wl,-soname,libwelungad.so.1", "-o", os.path.join(others, "libwelungad.so.1"), f"{self.top}/other.c"]
+        self.assertEqual(self.call(["cc", "-shared", "-fPIC", *made]), (0, "", ""))
+        os.symlink("libwelungad.so.1", os.path.join(others, "libwelungad.so"))
+        self.assertEqual(self.call(["./configure"], where=os.path.join(self.top, "r"), WELUNGAD_PREFIX=prefix)[0], 0)
+        with open(os.path.join(self.top, "r", "src", "Makevars"), encoding="utf-8") as file:
+            variables = dict(line.rstrip("\n").split(" = ", 1) for line in file)
+        link = f"cc {variables['PKG_CPPFLAGS']} -o '{others}/caller' '{self.top}/caller.c' -L'{others}' {variables['PKG_LIBS']}"
+        self.assertEqual(self.call(["sh", "-c", link]), (0, "", ""))
+        done = self.call([os.path.join(others, "caller")], LD_LIBRARY_PATH=others)
+        self.assertEqual(done, (0, content("VERSION"), ""))
 
 
 def finding():
@@ -815,7 +860,10 @@ class Configure(Room):
         if os.path.isdir("/proc/self"):
             self.assertEqual(self.configure(stood=self.room, WELUNGAD_PREFIX="a prefix")[1], wanted)
         os.remove(os.path.join(prefix, "lib", "libwelungad.a"))
-        self.assertIn("-Wl,-rpath", self.configure(WELUNGAD_PREFIX=prefix)[1])
+        libs = f"PKG_LIBS = '{prefix}/lib/libwelungad.so' -Wl,--disable-new-dtags -Wl,-rpath,'{prefix}/lib'\n"
+        self.assertEqual(self.configure(WELUNGAD_PREFIX=prefix)[1], f"PKG_CPPFLAGS = -DWELUNGAD_LIBRARY -I'{prefix}/include'\n{libs}")
+        wanted = f"PKG_CPPFLAGS = -DWELUNGAD_LIBRARY -I'{self.top}/c'\nPKG_LIBS = '{self.top}/c/out/libwelungad.a'\n"
+        self.assertEqual(self.configure(WELUNGAD_PREFIX=prefix, **places)[1], wanted)
 
     def test_refused(self):
         """Whether a folder without the library, and a library that isn't the one that was proved, is an error."""
@@ -844,6 +892,9 @@ class Configure(Room):
         for line in ("library built edited", "library built unknown", "built edited"):
             self.write(identity, re.sub(rf"(?m)^{line.rpartition(' ')[0]} .*$", line, text))
             self.is_refused(self.configure(WELUNGAD_PREFIX=prefix)[0], "edited and not committed")
+        self.write(identity, re.sub("(?m)^sha256 .*\n", "", text))
+        for path in (self.environment["PATH"], self.path_without("sha256sum", "shasum")):
+            self.is_refused(self.configure(WELUNGAD_PREFIX=prefix, PATH=path)[0], "not the library that was proved")
         os.remove(identity)
         self.is_refused(self.configure(WELUNGAD_PREFIX=prefix)[0], "nothing says which library")
         self.write("c/calls.c", "edited\n")

@@ -316,6 +316,18 @@ class Pages(Form):
         broken = report.page(b"# \xff\n" + CASE.encode(), lambda words, given: (0, CANON) if words[0] == "canon" else answering()(words, given))
         self.assertIn("# \ufffd\n", next(read(broken).all("pre")).text())
 
+    def test_labels_from_right_to_left(self):
+        """Whether a label that turns the text beside it, or is of a script from right to left, stands by itself, and another one as it is."""
+        turned, hebrew = "\u202eA", "\u05de\u05d9\u05e0\u05d5\u05df"
+        text = report.page(CASE, answering(), labels=[turned, hebrew])
+        page = self.check_form(text)
+        self.assertEqual([row[0] for row in rows_of(page, "decision")[1:]], [f"{turned} (H1)", f"{hebrew} (H2)"])
+        for label in (turned, hebrew):
+            self.assertEqual(text.count(label), text.count(f"<bdi>{label}</bdi>") + text.count(f"\u2068{label}\u2069") + text.count(f">{label}</text>"))
+            self.assertGreater(text.count(f"<bdi>{label}</bdi>"), 3)
+            self.assertGreater(text.count(f"\u2068{label}\u2069 has the weight"), 0)
+        self.assertNotIn("<bdi>", report.page(CASE, answering(), labels=["high \u00fc", "\u65e5\u672c"]))
+
     def test_long_labels(self):
         """Whether a picture has the two ends of a long label, the tables and the description have all of it, and no surrogate is left."""
         label = "a label " + 3000 * "<x>" + " that ends \udcff"

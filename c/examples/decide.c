@@ -1,4 +1,5 @@
-/* Decides the case in a file, and prints the report or the refusal. Ends with the status of the call, or with 125 if none is made.
+/* Decides the case in a file, and prints the report or the refusal. Ends with the status of the call, or with 125 if none is made or its
+ * text cannot be written.
  *
  *     cc $(pkg-config --cflags welungad) -o decide decide.c $(pkg-config --libs welungad)
  *     ./decide holm.txt
@@ -64,7 +65,7 @@ int main(int count, char **words) {
   if (welungad_interface() != WELUNGAD_INTERFACE) stop("the library and its header are of different releases");
   kase = read_file(words[1]);
   status = decide(kase, &text);
-  fwrite(text.bytes, 1, text.length, stdout);
+  if (fwrite(text.bytes, 1, text.length, stdout) < text.length || fflush(stdout)) stop("the text cannot be written");
   free(text.bytes);
   free(kase.bytes);
   return status;

@@ -301,6 +301,13 @@ class Answers(unittest.TestCase):
             with open(os.path.join(room, "graph.svg"), encoding="utf-8") as file:
                 self.assertEqual(file.read(), picture.svg)
 
+    def test_draw_labels_with_any_character(self):
+        labels = ["a\x01b", "\udcff", "\0", "\x7f \x85", "\ufffe", "\U0001f4a7", "line\nfeed", "<&>\"'"]
+        picture = welungad.Graph([Fraction(1, 8)] * 8, {(labels[0], labels[1]): 1}, labels).draw()
+        drawn = xml.etree.ElementTree.fromstring(picture.svg.encode())
+        titles = [it[0].text for it in drawn.iter("{http://www.w3.org/2000/svg}circle") if len(it)]
+        self.assertEqual(titles, ["a\ufffdb", "\ufffd", "\ufffd", "\x7f \x85", "\ufffd", "\U0001f4a7", "line\nfeed", "<&>\"'"])
+
     def test_draw_each_at_its_place(self):
         """Whether each number is in the circle of its hypothesis, and each arrow goes from its hypothesis to the other."""
         graph = welungad.Graph({"A": "1/2", "B": "1/3", "C": "1/7"}, {("A", "B"): "1/4", ("C", "A"): "3/4"})

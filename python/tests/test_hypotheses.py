@@ -1,5 +1,7 @@
 """Tests of hypotheses: labels, the names that are made for them, and the one function that puts values in order."""
+import array
 import collections
+import enum
 import unittest
 from fractions import Fraction
 
@@ -15,6 +17,18 @@ except ImportError:
     pandas = None
 
 AB = ("A", "B")
+
+
+class Dose(str, enum.Enum):
+    LOW = "low"
+    HIGH = "high"
+
+
+class Shown(str):
+    """A text that is shown as another one."""
+
+    def __str__(self):
+        return "x"
 
 
 class Names(unittest.TestCase):
@@ -41,6 +55,14 @@ class Names(unittest.TestCase):
             _hypotheses.hold_labels(["low dose", "low dose"], "weights")
         with self.assertRaisesRegex(TypeError, "^names: label 2 is a text, and not 2 of type int$"):
             _hypotheses.hold_labels(["A", 2], "names")
+
+    def test_labels_of_other_classes_of_text(self):
+        for labels, texts in [([Dose.LOW, Dose.HIGH], ("low", "high")), ([Shown("A"), Shown("B")], AB)]:
+            with self.subTest(texts):
+                held = _hypotheses.hold_labels(labels, "names")
+                self.assertEqual([(type(it), it) for it in held], [(str, it) for it in texts])
+                self.assertEqual(_hypotheses.in_order(dict(zip(labels, (1, 2))), held, "p"), [1, 2])
+                self.assertEqual(_hypotheses.in_order({texts[1]: 2, texts[0]: 1}, held, "p"), [1, 2])
 
 
 class Order(unittest.TestCase):
@@ -74,6 +96,16 @@ class Order(unittest.TestCase):
                       {"A": 1, "B": 2}.values(), {"A", "B"}, object()]:
             with self.subTest(given), self.assertRaisesRegex(TypeError, "^p"):
                 _hypotheses.in_order(given, AB, "p")
+
+    def test_arrays_of_python(self):
+        self.assertEqual(_hypotheses.in_order(array.array("d", [0.5, 0.25]), AB, "p"), [0.5, 0.25])
+        self.assertEqual(_hypotheses.in_order(array.array("f", [0.5, 0.25]).tolist(), AB, "p"), [0.5, 0.25])
+        self.assertEqual(_hypotheses.in_order(array.array("b", [0, 1]), AB, "p"), [0, 1])
+        for given in [array.array("f", [0.1, 0.2]), memoryview(array.array("f", [0.1, 0.2])), memoryview(b"\0\1"), bytearray(b"\0\1")]:
+            with self.subTest(given), self.assertRaisesRegex(TypeError, "^p is"):
+                _hypotheses.in_order(given, AB, "p")
+            with self.subTest(given), self.assertRaisesRegex(TypeError, "^edges is"):
+                _hypotheses.rows_of(given, "edges")
 
     @unittest.skipUnless(numpy, "numpy is missing")
     def test_numpy(self):

@@ -13,6 +13,14 @@ from welungad import _library
 SOURCE = "#include <stdint.h>\n"
 INTERFACE = "uint32_t welungad_interface(void) { return %d; }\n"
 RUN = "uint8_t welungad_run(void) { return 0; }\n"
+# a call with the parameters of the library's, whose statements may use them
+RUN_AS = """#include <string.h>
+uint8_t welungad_run(const char *words, size_t words_len, const char *kase, size_t kase_len, const char *proof, size_t proof_len,
+                     char *out, size_t out_len, size_t *needed) { %s }
+"""
+LOADED = """#include <unistd.h>
+__attribute__((constructor)) static void say(void) { if (write(1, "loaded\\n", 7) != 7) _exit(9); }
+"""
 
 
 def say(folder, statement, **environment):
@@ -89,6 +97,108 @@ class Places(Rooms):
             source, made = self.put("lib.c", (SOURCE + code).encode()), os.path.join(self.room, "libwelungad.so")
             subprocess.run(["cc", "-shared", "-fPIC", "-o", made, source], check=True)
             self.assertIn(words, say(folder, self.RUN, WELUNGAD_LIBRARY=made))
+
+
+@unittest.skipUnless(shutil.which("cc"), "cc is missing")
+class Loaded(Rooms):
+    """Whether the library that is found is held to its stamp before it is loaded, and what it answers is taken whole."""
+
+    RUN = "import welungad; print(*welungad.run(['help'], '%s'))"
+
+    def make(self, path, *code):
+        """Compiles a library below the folder, and returns its path."""
+        made = self.put(path)
+        source = self.put("lib.c", (SOURCE + "".join(code)).encode())
+        subprocess.run(["cc", "-shared", "-fPIC", "-o", made, source], check=True)
+        return made
+
+    def put_stamp(self, path, library, content=None):
+        """Writes a stamp of the library's name with the SHA-256 of what it holds, or of another content."""
+        with open(library, "rb") as file:
+            digest = hashlib.sha256(file.read() if content is None else content).hexdigest()
+        self.put(path, f"sha256 libwelungad.so {digest}\n".encode())
+
+    def test_it_is_held_before_it_is_loaded(self):
+        for lib, stamp, folder in [("site-packages/welungad", "site-packages/welungad/stamp", "site-packages"),
+                                   ("top/c/out", "top/c/out/stamp", "top/python"),
+                                   ("prefix/lib", "prefix/share/welungad/identity", "prefix/share/welungad/python")]:
+            with self.subTest(lib):
+                folder = self.put_package(folder)
+                self.put("top/c/welungad.h")
+                os.makedirs(os.path.join(self.room, "top", "crates"), exist_ok=True)
+                made = self.make(f"{lib}/libwelungad.so", INTERFACE % 1, RUN, LOADED)
+                self.put_stamp(stamp, made)
+                self.assertEqual(say(folder, self.RUN % ""), "loaded\n0 b''\n")
+                self.put_stamp(stamp, made, b"another one")
+                for environment in [{}, {"WELUNGAD_LIBRARY": made}]:
+                    said = say(folder, self.RUN % "", **environment)
+                    self.assertIn(f"OSError: {made} is not the file that was built", said)
+                    self.assertNotIn("loaded", said)
+                os.remove(made)
+
+    def test_a_link_that_names_it_by_its_interface(self):
+        folder = self.put_package("x")
+        for lib, stamp in [("top/c/out", "top/c/out/stamp"), ("prefix/lib", "prefix/share/welungad/identity")]:
+            made = self.make(f"{lib}/libwelungad.so.0.1.0", INTERFACE % 1, RUN, LOADED)
+            link = os.path.join(os.path.dirname(made), "libwelungad.so.1")
+            os.symlink("libwelungad.so.0.1.0", link)
+            for content, wanted in [(None, "loaded\n0 b''\n"), (b"another one", "is not the file that was built")]:
+                self.put_stamp(stamp, made, content)
+                for path in [made, link]:
+                    with self.subTest((path, content)):
+                        said = say(folder, self.RUN % "", WELUNGAD_LIBRARY=path)
+                        self.assertIn(wanted, said)
+                        self.assertEqual("loaded" in said, content is None)
+
+    def test_an_installation_that_does_not_name_it(self):
+        folder = self.put_package("prefix/share/welungad/python")
+        made = self.make("prefix/lib/libwelungad.so", INTERFACE % 1, RUN)
+        self.put("prefix/share/welungad/identity", b"release 0\nsha256 welungad 00\n")
+        self.assertIn("identity has no line sha256 for libwelungad.so", say(folder, self.RUN % ""))
+        os.remove(os.path.join(self.room, "prefix", "share", "welungad", "identity"))
+        self.assertEqual(say(folder, self.RUN % ""), "0 b''\n", made)
+
+    def test_the_first_place_is_taken(self):
+        folder = self.put_package("prefix/share/welungad/python")
+        paths = [self.make(path, INTERFACE % number, RUN) for number, path in
+                 [(2, "prefix/share/welungad/python/welungad/libwelungad.so"), (3, "prefix/lib/libwelungad.so"), (4, "other.so")]]
+        self.assertIn("has interface 4", say(folder, self.RUN % "", WELUNGAD_LIBRARY=paths[2]))
+        self.assertIn("has interface 2", say(folder, self.RUN % ""))
+        os.remove(paths[0])
+        self.assertIn("has interface 3", say(folder, self.RUN % ""))
+
+    def test_one_that_comes_later_reads_doubles(self):
+        folder = self.put_package("x")
+        reads = "uint8_t welungad_read(const uint64_t *b, uint64_t n, uint64_t *o, uint64_t k) { for (; k; k--) o[k - 1] = k % 2; return 0; }\n"
+        made = self.make("libwelungad.so", INTERFACE % 1, RUN, reads)
+        statement = ("import os, welungad\nfor place in ['/nowhere/lib.so', %r]:\n    os.environ['WELUNGAD_LIBRARY'] = place\n"
+                     "    print(welungad.as_exact(0.3))" % made)
+        self.assertEqual(say(folder, statement), "3/10\n1\n")
+        self.make("libwelungad.so", INTERFACE % 2, RUN, reads)
+        self.assertEqual(say(folder, statement), "3/10\n3/10\n")
+
+    def test_texts_of_each_length(self):
+        folder = self.put_package("x")
+        # the text has the length that the case names
+        run = RUN_AS % """size_t length = 0;
+          for (size_t k = 0; k < kase_len; k++) length = 10 * length + (kase[k] - '0');
+          memset(out, 'a', length < out_len ? length : out_len); *needed = length; return length <= out_len ? 0 : 7;"""
+        made = self.make("libwelungad.so", INTERFACE % 1, run)
+        statement = ("import welungad\nfor length in [0, 1, 65535, 65536, 65537, 70000, 300000, 2]:\n"
+                     "    status, text = welungad.run(['help'], str(length))\n    print(status, text == b'a' * length)")
+        self.assertEqual(say(folder, statement, WELUNGAD_LIBRARY=made), "0 True\n" * 8)
+
+    def test_a_text_that_changes_its_length(self):
+        folder = self.put_package("x")
+        # the second text needs more room than the first, and the third is out of memory
+        run = RUN_AS % """static size_t calls = 0;
+          if (calls++ < 2) { *needed = 60000 + 10000 * calls; return 7; }
+          memcpy(out, "no memory\\n", 10); *needed = 10; return 8;"""
+        made = self.make("libwelungad.so", INTERFACE % 1, run)
+        self.assertEqual(say(folder, self.RUN % "", WELUNGAD_LIBRARY=made), "8 b'no memory\\n'\n")
+        made = self.make("libwelungad.so", INTERFACE % 1, RUN_AS % "*needed = out_len + 1; return 0;")
+        self.assertIn("BadAnswer: the library gives 65536 of 65537 bytes of its text, which is no whole answer",
+                      say(folder, self.RUN % "", WELUNGAD_LIBRARY=made))
 
 
 class Programs(Rooms):

@@ -1,4 +1,5 @@
 """Tests of numbers: the table of readings, the rule by its definition, and what is a number."""
+import array
 import os
 import random
 import struct
@@ -191,6 +192,11 @@ class Kinds(unittest.TestCase):
                              (Decimal("1E-7"), "1e-7"), (Fraction(2, 7), "2/7"), (0, "0"), (1, "1"), ("1e-00001", "1/10"), ("0e99999", "0")]:
             with self.subTest(given):
                 self.assertEqual(welungad.as_exact(given), Fraction(value.replace("0e99999", "0")))
+
+    def test_arrays_of_python(self):
+        self.assertEqual(welungad.as_exact(array.array("d", [0.1, 1 / 3])), [Fraction(1, 10), Fraction(1, 3)])
+        with self.assertRaisesRegex(TypeError, "^numbers is of type array, whose numbers are not doubles"):
+            welungad.as_exact(array.array("f", [0.1, 1 / 3]))
 
     def test_no_numbers(self):
         for given in [True, False, None, b"0.5", 0.5j, object(), {0.5}, [None], iter([0.5])]:

@@ -109,6 +109,8 @@ class Pages(unittest.TestCase):
                 graph.report(decision, **wrong)
         with self.assertRaisesRegex(TypeError, "^title is a text, and not of type int$"):
             graph.report(decision, title=1)
+        with self.assertRaisesRegex(TypeError, "^file is the path of a file, and not of type bytes$"):
+            graph.report(decision, b"report.html")
         with self.assertRaises(welungad.Refused):
             graph.report([0.01, 2])
         object.__setattr__(decision, "report", decision.report.replace("1/50", "1/49"))

@@ -117,6 +117,8 @@ class Studies(Rooms):
         for call, message in [(lambda: welungad.Study(5, self.store), "^case is a text"), (lambda: welungad.Study(CASE, 5), "^store is the path"),
                               (lambda: welungad.Study(CASE, b"x"), "^store is the path"), (lambda: welungad.Study(CASE, self.store, form=5), "^form is"),
                               (lambda: study.look("H1", 1.0, 0.1), "^the stage of look 1 is a whole"), (lambda: study.looks([5]), "^look 1 is a hyp"),
+                              (lambda: study.looks(None), "^looks is a list"), (lambda: study.looks({("H1", 1, "0.1"), ("H2", 1, "0.1")}), "^looks is a list"),
+                              (lambda: study.looks(""), "^looks is a list"),
                               (lambda: study.look("H1", 1, None), "^the p-value of look 1 is a number")]:
             with self.subTest(message), self.assertRaisesRegex(TypeError, message):
                 call()
@@ -143,6 +145,25 @@ class Studies(Rooms):
             welungad.Study(CASE, self.store).show()
         self.assertEqual((caught.exception.status, caught.exception.line), (9, "keeper fault"))
         self.assertTrue(caught.exception.explanation)
+
+    def test_a_path_from_another_folder(self):
+        before = os.getcwd()
+        self.addCleanup(os.chdir, before)
+        for name in ["looks.db", "-looks.db"]:
+            os.chdir(self.room)
+            study = welungad.Study(CASE, name)
+            study.look("H1", 1, "0.02")
+            os.mkdir(os.path.join(self.room, f"other {name}"))
+            os.chdir(os.path.join(self.room, f"other {name}"))
+            self.assertEqual(study.show().looks, 1)
+            self.assertEqual(study.look("H1", 1, "0.02"), welungad.RefusedLook("H1", 1, "known"))
+            self.assertEqual(os.listdir("."), [])
+            self.assertEqual(welungad.Study(CASE, os.path.join("..", name)).show().looks, 1)
+
+    def test_a_path_that_is_not_utf_8(self):
+        with self.assertRaisesRegex(ValueError, "^store is the path of a file in UTF-8, and not "):
+            welungad.Study(CASE, os.path.join(self.room, "looks\udcff.db"))
+        self.assertEqual(os.listdir(self.room), [])
 
     def test_a_path_with_blanks_and_signs(self):
         store = os.path.join(self.room, "--looks of 'ü' $x.db")

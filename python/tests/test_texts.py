@@ -1,9 +1,12 @@
 """Tests of the functions over texts: each row of crates/acceptance/data that `run` answers, and values by hand."""
 import collections
+import ctypes
 import pickle
+import sys
 import threading
 import unittest
 from fractions import Fraction
+from unittest import mock
 
 import acceptance_rows
 import welungad
@@ -139,6 +142,58 @@ class Calls(unittest.TestCase):
             thread.join()
         self.assertEqual(answers, [wanted] * 800)
 
+    def test_threads_with_cases_of_their_own(self):
+        before = sys.getswitchinterval()
+        self.addCleanup(sys.setswitchinterval, before)
+        sys.setswitchinterval(1e-6)
+        cases = [f"alpha 1/{40 + k}\nhypotheses {'H' * (4 * k + 1)}\np 1/{1000 + k}\nweights 1\n" for k in range(4)]
+        wanted = [welungad.run(["test"], case) for case in cases]
+        self.assertEqual(len(set(wanted)), 4)
+        others = []
+
+        def call(case, answer):
+            others.extend(it for it in (welungad.run(["test"], case) for _ in range(500)) if it != answer)
+
+        threads = [threading.Thread(target=call, args=both) for both in zip(cases, wanted)]
+        for thread in threads:
+            thread.start()
+        for thread in threads:
+            thread.join()
+        self.assertEqual(others, [])
+
+    def test_a_call_within_a_call(self):
+        """A handler of a signal may call when a call has ended and its text is not taken yet."""
+        case, taken, within = example("holm.txt"), ctypes.string_at, []
+
+        def take(room, length):
+            if not within:
+                within.append(None)
+                within.append(welungad.run(["help"]))
+            return taken(room, length)
+
+        wanted = [welungad.run(["test"], case), welungad.run(["help"])]
+        with mock.patch.object(ctypes, "string_at", take):
+            self.assertEqual(welungad.run(["test"], case), wanted[0])
+        self.assertEqual(within[1], wanted[1])
+
+    def test_answers_of_the_length_of_the_first_room(self):
+        names = [f"hypo{k:04}" for k in range(1, 49)]
+
+        def case_of(names, digits):
+            """Returns a case in its one spelling, whose p-values have this number of further digits."""
+            p = " ".join("1/10" + "0" * (digits // 48 + (k < digits % 48)) for k in range(48))
+            edges = "".join(f"edge {a} {b} 1/47\n" for a in names for b in names if a != b)
+            return f"alpha 1/40\nhypotheses {' '.join(names)}\np {p}\nweights {' '.join(['1/48'] * 48)}\n{edges}"
+
+        for length in range(65535, 65539):
+            # a longer name adds 95 bytes
+            longer, digits = divmod(length - len(case_of(names, 0)), 95)
+            case = case_of([name + "x" * (k < longer) for k, name in enumerate(names)], digits)
+            self.assertEqual(len(case), length)
+            status, text = welungad.run(["canon"], case)
+            self.assertEqual((status, len(text)), (0, length))
+            self.assertEqual(text.decode(), case)
+
 
 class Results(unittest.TestCase):
     """What the commands return, by hand."""
@@ -168,6 +223,11 @@ class Results(unittest.TestCase):
             decision = welungad.test(sheet, form="csv", alpha=alpha)
             self.assertEqual((decision.alpha, decision.rejected), (Fraction(1, 20), ("A", "B")))
         self.assertEqual(welungad.test(sheet, form="csv", alpha=1 / 3).alpha, Fraction(1, 3))
+
+    def test_a_sheet_with_many_blanks(self):
+        sheet = lines_of(["hypothesis,weight,p," + 200000 * " " + "A\t,\" B\"", "A,1/2,0.02,0,1", "B,1/2,0.04,1,0"])
+        for given in [sheet, "\n\r\n" + sheet, sheet.replace("\n", "\r"), b"\xef\xbb\xbf" + sheet.encode()]:
+            self.assertEqual(welungad.test(given, form="csv", alpha="0.05").rejected, ("A", "B"))
 
     def test_weights(self):
         case = lines_of(["alpha 0.05", "hypotheses A B", "weights 1/2 1/4", "edge A B 1/2"])
@@ -252,6 +312,17 @@ class Refusals(unittest.TestCase):
             with self.subTest(options), self.assertRaises(welungad.Refused) as caught:
                 welungad.test(example("holm.txt"), **options)
             self.assertEqual(caught.exception.status, welungad.USAGE)
+
+    def test_a_form_that_is_none(self):
+        for call in (welungad.test, welungad.canon, welungad.weights):
+            with self.subTest(call), self.assertRaisesRegex(TypeError, "^form is a text, and not of type None$"):
+                call(example("holm.txt"), form=None)
+
+    def test_a_word_that_is_not_utf_8(self):
+        with self.assertRaises(welungad.Refused) as caught:
+            welungad.test(example("holm.txt"), form="\udcff")
+        self.assertEqual((caught.exception.status, caught.exception.line), (welungad.UNREADABLE_WORDS, ""))
+        self.assertEqual(str(caught.exception), "A word of the call is not UTF-8.")
 
     def test_a_level_that_the_text_has_itself(self):
         case = lines_of(["alpha 0.05", "hypotheses A", "p 0.01", "weights 1"])

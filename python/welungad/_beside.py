@@ -63,7 +63,8 @@ def exact_value(given: Any, place: str) -> Fraction:
 
 
 def _is_many(given: Any) -> bool:
-    return isinstance(given, (list, tuple, dict)) or hasattr(given, "items") or getattr(given, "ndim", 0) > 0
+    has_places = getattr(given, "ndim", int(hasattr(given, "tolist"))) > 0
+    return isinstance(given, (list, tuple, dict)) or hasattr(given, "items") or has_places
 
 
 def as_exact(given: Any, total: Optional[Given] = None) -> Union[Fraction, List[Fraction], Dict[str, Fraction]]:

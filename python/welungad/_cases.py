@@ -2,6 +2,7 @@
 import csv
 import io
 import json
+import re
 from typing import List, Tuple
 
 
@@ -13,8 +14,8 @@ def _names_of_text(text: str) -> Tuple[str, ...]:
 
 
 def _names_of_sheet(text: str) -> Tuple[str, ...]:
-    """Returns the fields of the header after the first three."""
-    begun = text[3:] if text.startswith("\u00ef\u00bb\u00bf") else text
+    """Returns the fields of the header after the first three. No name has a blank, and the module csv refuses a field of very many."""
+    begun = re.sub("[ \t]+", " ", text[3:] if text.startswith("\u00ef\u00bb\u00bf") else text)
     none: List[str] = []
     header = next((row for row in csv.reader(io.StringIO(begun, newline="")) if row), none)
     return tuple(field.strip(" \t") for field in header[3:])

@@ -15,7 +15,7 @@ Found = TypeVar("Found", bound=Answer)
 def _words(command: List[str], form: str, alpha: Optional[Level], **options: Optional[str]) -> List[str]:
     """Returns the words of a command, with the options that are given."""
     for option, value in [("form", form), *options.items()]:
-        if value is not None and not isinstance(value, str):
+        if not isinstance(value, str) and (value is not None or option == "form"):
             raise TypeError(f"{option} is a text, and not of type {kind_of(value)}")
     words = list(command)
     if form != "text":

@@ -1,5 +1,6 @@
 """Graphs: a weighted graph over hypotheses, and what the proved call answers about it."""
 import functools
+import os
 import warnings
 from fractions import Fraction
 from typing import Any, Callable, Dict, List, Mapping, NamedTuple, Optional, Sequence, Tuple, TypeVar, Union
@@ -426,6 +427,8 @@ class Graph:
             raise TypeError("alpha and priority are given with p-values: a decision has its own")
         if title is not None and not isinstance(title, str):
             raise TypeError(f"title is a text, and not of type {kind_of(title)}")
+        if file is not None and not isinstance(file, (str, os.PathLike)):
+            raise TypeError(f"file is the path of a file, and not of type {kind_of(file)}")
         self._hold_own(decided)
         kind, count = "Staged" if isinstance(decided, Stages) else "Graphical", len(self)
         own = f"{kind} test of {count} {'hypothesis' if count == 1 else 'hypotheses'}"

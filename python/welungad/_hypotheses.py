@@ -44,7 +44,8 @@ def hold_labels(labels: Sequence[str], argument: str) -> Tuple[str, ...]:
     repeated = [label for label in labels if list(labels).count(label) > 1]
     if repeated:
         raise ValueError(f"{argument}: the label {repeated[0]!r} occurs {list(labels).count(repeated[0])} times")
-    return tuple(map(str, labels))
+    # the text itself, and not what its class, such as an enumeration, shows for it
+    return tuple(map(str.__str__, labels))
 
 
 # ---- values by hypothesis
@@ -55,6 +56,16 @@ class Values(NamedTuple):
 
     labels: Optional[List[Any]]
     values: List[Any]
+
+
+def is_sequence(given: Any) -> bool:
+    """Whether something is a sequence of values, and neither a text nor bytes."""
+    return isinstance(given, Sequence) and not isinstance(given, (str, bytes, bytearray, memoryview))
+
+
+def is_array(given: Any) -> bool:
+    """Whether something is an array, as numpy, pandas and Python have them; a view of bytes is none."""
+    return callable(getattr(given, "tolist", None)) and not isinstance(given, memoryview)
 
 
 def is_frame(given: Any) -> bool:
@@ -68,7 +79,7 @@ def _is_numbered(labels: List[Any]) -> bool:
 
 
 def values_of(given: Any, argument: str) -> Values:
-    """Returns values with their labels, of a sequence, a dict, a series of pandas or an array of numpy.
+    """Returns values with their labels, of a sequence, a dict, a series of pandas or an array.
 
     `TypeError`: it is none of these. A set has no order, and an iterator may have lost some values.
     """
@@ -81,12 +92,12 @@ def values_of(given: Any, argument: str) -> Values:
         values = plain(given, argument)
         labels = [label for label, _ in pairs]
         return Values(None if _is_numbered(labels) else labels, values)
-    if callable(getattr(given, "tolist", None)):
+    if is_array(given):
         found = plain(given, argument)
         if not isinstance(found, list) or any(isinstance(it, list) for it in found):
             raise TypeError(f"{argument} is one value for each hypothesis, and not an array of {getattr(given, 'ndim', 0)} dimensions")
         return Values(None, found)
-    if isinstance(given, Sequence) and not isinstance(given, (str, bytes, bytearray, memoryview)):
+    if is_sequence(given):
         return Values(None, list(given))
     raise TypeError(f"{argument} is a list with a value for each hypothesis, or a dict by their names, and not of type {kind_of(given)}")
 
@@ -135,11 +146,11 @@ def frame_rows(given: Any, argument: str) -> List[List[Any]]:
 
 def rows_of(given: Any, argument: str) -> List[Any]:
     """Returns the rows of a matrix without labels: a sequence of rows, or an array of two dimensions."""
-    if callable(getattr(given, "tolist", None)) and not hasattr(given, "items"):
+    if is_array(given) and not hasattr(given, "items"):
         found = plain(given, argument)
         if not isinstance(found, list) or not all(isinstance(it, list) for it in found):
             raise TypeError(f"{argument} is a matrix, and not an array of {getattr(given, 'ndim', 0)} dimensions")
         return found
-    if isinstance(given, Sequence) and not isinstance(given, (str, bytes, bytearray, memoryview)):
+    if is_sequence(given):
         return list(given)
     raise TypeError(f"{argument} is a list of rows, and not of type {kind_of(given)}")

@@ -75,8 +75,9 @@ def _load(path: str) -> ctypes.CDLL:
 
 
 def stamped(stamp: str, path: str) -> Optional[str]:
-    """Returns the SHA-256 that a stamp has for a file, or nothing if it has none."""
+    """Returns the SHA-256 that a stamp has for a file, or nothing if it has none. It may name the library without its release."""
     names = {os.path.basename(path), os.path.basename(os.path.realpath(path))}
+    names |= {_NAME for name in names if name.startswith(_NAME + ".")}
     with open(stamp, encoding="utf-8", errors="replace") as file:
         lines = [line.split() for line in file]
     return next((line[2] for line in lines if len(line) == 3 and line[0] == "sha256" and line[1] in names), None)
@@ -103,7 +104,7 @@ def hold(path: str) -> None:
     identity = os.path.join(os.path.dirname(folder), "share", "welungad", "identity")
     if os.path.isfile(beside):
         hold_to_stamp(path, beside)
-    elif os.path.isfile(identity) and stamped(identity, path):
+    elif os.path.isfile(identity):
         hold_to_stamp(path, identity)
     elif all(os.path.isfile(os.path.join(folder, "..", name)) for name in ("build.sh", "welungad.h")):
         raise OSError(f"{path} has no stamp beside it: run c/build.sh")
@@ -218,12 +219,13 @@ def run(words: Iterable[Text], case: Text = b"", proof: Text = b"") -> Tuple[int
         if status != _ROOM:
             break
         out = ctypes.create_string_buffer(needed.value)
+    if needed.value > len(out):
+        raise BadAnswer(f"the library gives {len(out)} of {needed.value} bytes of its text, which is no whole answer")
     text = ctypes.string_at(out, needed.value)
     _rooms.room = room
     return status, text
 
 
-@functools.lru_cache(maxsize=None)
 def _reader() -> Optional[Callable[..., int]]:
     """Returns the call that reads doubles; nothing if there is no library, or an older one."""
     try:

@@ -169,6 +169,11 @@ def _texts(found: Any) -> Iterator[str]:
         yield found
 
 
+def _has_doubles(found: Any) -> bool:
+    """Whether there is a double in lists of lists."""
+    return any(map(_has_doubles, found)) if isinstance(found, list) else isinstance(found, float)
+
+
 def _is_of_times(value: Any) -> bool:
     """Whether something has the times or spans of numpy, which are whole numbers of nanoseconds to Python."""
     return getattr(getattr(value, "dtype", None), "kind", "") in ("m", "M")
@@ -177,16 +182,18 @@ def _is_of_times(value: Any) -> bool:
 def plain(value: Any, place: str) -> Any:
     """Returns what an array, or a scalar of numpy, holds, as lists and numbers of Python.
 
-    `TypeError`: its numbers have fewer digits than a double, so that they are not the doubles that they look like; they are times; or
+    `TypeError`: its numbers have other digits than a double, so that they are not the doubles that they look like; they are times; or
     numpy has turned doubles into texts, since there was a text among them.
     """
     dtype = getattr(value, "dtype", None)
     kind = getattr(dtype, "kind", "")
     if _is_of_times(value):
         raise TypeError(f"{place} is of type {dtype}, and times are no numbers")
-    if kind == "f" and getattr(dtype, "itemsize", 8) != 8:
-        raise TypeError(f"{place} is of type {dtype}, whose numbers are not doubles: give doubles, fractions or texts")
     found = value.tolist()
+    size = getattr(dtype, "itemsize", getattr(value, "itemsize", 8))
+    if size != 8 and kind != "O" and (kind == "f" or _has_doubles(found)):
+        of = kind_of(value) if dtype is None else dtype
+        raise TypeError(f"{place} is of type {of}, whose numbers are not doubles: give doubles, fractions or texts")
     if type(found) is type(value):
         raise TypeError(f"{place} is a number, and not of type {kind_of(value)}")
     for text in _texts(found) if kind == "U" else ():

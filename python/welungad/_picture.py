@@ -1,5 +1,6 @@
 """Pictures of graphs, as SVG: a circle for each hypothesis on a ring, an arrow for each edge, a colour for each component."""
 import math
+import re
 from fractions import Fraction
 from html import escape
 from typing import Dict, List, NamedTuple, Optional, Sequence, Tuple
@@ -13,6 +14,8 @@ _LONGEST_LABEL = 24
 _MOST_INSIDE = 9  # longer labels are beside the circle
 _MOST_LABELLED_EDGES = 60
 _POWERS = ("", "ε", "ε²", "ε³", "ε⁴")
+
+_NOT_OF_XML = re.compile("[^\t\n\r -\ud7ff\ue000-\ufffd\U00010000-\U0010ffff]")
 
 Point = Tuple[float, float]
 
@@ -52,13 +55,18 @@ def number_text(x: Number) -> str:
     return above if x.denominator == (Fraction(1),) else f"({above})/({_polynomial(x.denominator)})"
 
 
+def _escaped(text: str) -> str:
+    """Returns a text as an SVG file has it. A character that no such file may have is shown as one that is not known."""
+    return escape(_NOT_OF_XML.sub("\ufffd", text))
+
+
 def _short(label: str) -> str:
     return label if len(label) <= _LONGEST_LABEL else label[: _LONGEST_LABEL - 1] + "…"
 
 
 def _text(at: Point, text: str, size: float, colour: str = _INK, anchor: str = "middle", weight: str = "normal") -> str:
     return (f'<text x="{at[0]:.1f}" y="{at[1]:.1f}" font-size="{size:.1f}" fill="{colour}" text-anchor="{anchor}" '
-            f'font-weight="{weight}">{escape(text)}</text>')
+            f'font-weight="{weight}">{_escaped(text)}</text>')
 
 
 # ---- where things are
@@ -116,7 +124,7 @@ def _draw_arrows(arrows: Sequence[_Arrow], centres: Sequence[Point], labels: Seq
         points = _curve(centres[arrow.start], centres[arrow.end], 16.0 + 20 * arrow.component)
         (a, b), (p, q), (e, f) = points
         colour = _COLOURS[arrow.component % len(_COLOURS)]
-        title = escape(f"{labels[arrow.start]} → {labels[arrow.end]}: {arrow.text}")
+        title = _escaped(f"{labels[arrow.start]} → {labels[arrow.end]}: {arrow.text}")
         lines.append(f'<path d="M{a:.1f},{b:.1f} Q{p:.1f},{q:.1f} {e:.1f},{f:.1f}" fill="none" stroke="{colour}" stroke-width="1.5" '
                      f'marker-end="url(#head{arrow.component % len(_COLOURS)})"><title>{title}</title></path>')
         if len(arrows) <= _MOST_LABELLED_EDGES:
@@ -133,7 +141,7 @@ def _draw_circle(i: int, components: Sequence[Component], labels: Sequence[str],
     label, (x, y), (across, down) = labels[i], centres[i], _outwards(centres, i)
     fill = _REJECTED if label in steps else "#fff"
     drawn = [f'<circle cx="{x:.1f}" cy="{y:.1f}" r="{_RADIUS}" fill="{fill}" stroke="{_INK}" stroke-width="1.5">'
-             f'<title>{escape(label)}</title></circle>']
+             f'<title>{_escaped(label)}</title></circle>']
     beside = len(label) > _MOST_INSIDE
     if beside:
         anchor = "middle" if abs(across) < 0.3 else "start" if across > 0 else "end"

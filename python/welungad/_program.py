@@ -2,7 +2,7 @@
 import os
 import shutil
 import subprocess
-from typing import List, Sequence, Tuple
+from typing import List, Optional, Sequence, Tuple
 
 from ._library import PACKAGE, checkout, hold_to_stamp, prefixes, stamped
 from ._refusals import BadAnswer
@@ -50,15 +50,16 @@ def _stamps(path: str) -> List[str]:
     return [os.path.join(folder, "stamp"), os.path.join(os.path.dirname(folder), "share", "welungad", "identity")]
 
 
-def run_program(words: Sequence[str], case: bytes) -> Tuple[int, bytes]:
-    """Runs the program with words and what it reads from standard input, and returns its status and what it prints.
+def run_program(words: Sequence[str], case: bytes, folder: Optional[str] = None) -> Tuple[int, bytes]:
+    """Runs the program with words and what it reads from standard input, in a folder if one is named, and returns its status and what
+    it prints.
 
     `OSError`: the program is not found, or cannot be started. `BadAnswer`: it did not end with one of its statuses. The number of
     a signal is none.
     """
     program = program_path()
     try:
-        done = subprocess.run([program, *words], input=case, stdout=subprocess.PIPE, stderr=subprocess.PIPE, check=False)
+        done = subprocess.run([program, *words], input=case, stdout=subprocess.PIPE, stderr=subprocess.PIPE, cwd=folder, check=False)
     except OSError as error:
         raise OSError(f"{program} cannot be started: {error.strerror or error}") from error
     if done.returncode not in _STATUSES:

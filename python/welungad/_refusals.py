@@ -136,9 +136,11 @@ class Refused(Exception):
         self.status = status
         self.line = line
         self.where = where
-        self.explanation = explain(line)
+        self.explanation = explain(line) if line else "A word of the call is not UTF-8."
 
     def __str__(self) -> str:
+        if not self.line:
+            return self.explanation
         return f"{self.where}: {self.explanation} ({self.line})" if self.where else f"{self.line}. {self.explanation}"
 
 

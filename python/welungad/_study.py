@@ -8,6 +8,7 @@ from fractions import Fraction
 from functools import partial
 from typing import Any, Iterator, List, NamedTuple, Sequence, Tuple, Union
 
+from ._hypotheses import rows_of
 from ._library import Text, bytes_of, kind_of
 from ._numbers import Given, numeral, value_of, whole
 from ._program import run_program
@@ -28,6 +29,15 @@ class _Asked(NamedTuple):
 
 
 # ---- files
+
+
+def _is_utf8(path: str) -> bool:
+    """Whether the bytes of a path are UTF-8, as each word of the program has to be."""
+    try:
+        os.fsencode(path).decode("utf-8")
+    except UnicodeError:
+        return False
+    return True
 
 
 def _write_new(path: str, text: bytes) -> None:
@@ -109,8 +119,9 @@ class Study:
     Shown(looks=1, rejected=())
 
     `case` is the text of a staged case without arrivals, in the form `form`: text or json. `store` is the path of the file of looks,
-    which is made at the first call. The canonical text of the case is then written to STORE.case. A file of looks has positions
-    in place of names, so it is opened for the case that it was made for and for no other.
+    which is made at the first call; a relative one is seen from the folder in which the study is made, also by later calls. The
+    canonical text of the case is then written to STORE.case. A file of looks has positions in place of names, so it is opened for
+    the case that it was made for and for no other.
 
     Every call runs the program, which the environment variable WELUNGAD names; else it is the one of this checkout or this
     installation, or on the search path.
@@ -131,7 +142,11 @@ class Study:
             raise ValueError(f"store is the path of a file, and not {path!r}")
         if os.path.isdir(path):
             raise ValueError(f"store is the path of a file, and {path} is a folder")
-        self.store = path
+        if not _is_utf8(path):
+            raise ValueError(f"store is the path of a file in UTF-8, and not {path!r}")
+        # a later call from another folder is about the same file
+        self._given, self._folder = path, None if os.path.isabs(path) else os.getcwd()
+        self.store = os.path.join(self._folder or "", path)
         self.case = self._canon(given, form)
         self._read: Canonical = read_canonical(self.case)
         self._run([], keep=False)
@@ -154,7 +169,7 @@ class Study:
         """Takes looks in their order, in one run of the program. Returns for each what it rejects, or why it is not taken.
 
         If the run fails part way, the looks before are kept; `show` says how many there are."""
-        return self._run([self._asked(look, number) for number, look in enumerate(looks, 1)], keep=True).looks
+        return self._run([self._asked(look, number) for number, look in enumerate(rows_of(looks, "looks"), 1)], keep=True).looks
 
     def show(self) -> Shown:
         """Returns how many looks have been taken, and what is rejected."""
@@ -183,8 +198,8 @@ class Study:
         if keep:
             self._claim()
         with _file_of(commands) as path:
-            words = ["study", path, *(["--store", self.store] if keep else [])]
-            text = take_answer("study", *run_program(words, self.case.encode("ascii")))
+            words = ["study", path, *([f"--store={self._given}"] if keep else [])]
+            text = take_answer("study", *run_program(words, self.case.encode("ascii"), self._folder if keep else None))
         labels = {name: name for name in self.names}
         return read_whole("study", text, labels, partial(_read_study, alpha=self._read.alpha, asked=asked))
 

@@ -22,7 +22,7 @@ given_names <- function(weights, edges, hyp_names) {
   sources <- list(hyp_names = hyp_names, hypotheses = weights$names, transitions = edges$dimnames[[1]], transitions = edges$dimnames[[2]])
   sources <- sources[!vapply(sources, is.null, NA)]
   if (length(sources) == 0) return(if (n) paste0("H", whole_text(seq_len(n))) else character())
-  given <- as.character(sources[[1]])
+  given <- texts_in(sources[[1]], names(sources)[1])
   if (length(given) != n) stop_at(names(sources)[1], "one name is needed for each hypothesis")
   check_distinct(given, names(sources)[1])
   given
@@ -32,7 +32,7 @@ given_names <- function(weights, edges, hyp_names) {
 given_labels <- function(labels, given) {
   if (is.null(labels)) return(given)
   own <- names(labels)
-  labels <- as.character(labels)
+  labels <- texts_in(labels, "labels")
   if (length(labels) != length(given)) stop_at("labels", "one label is needed for each hypothesis")
   check_distinct(labels, "labels")
   names(labels) <- own
@@ -117,9 +117,11 @@ graph_catalogue <- function(name, size, second = NULL) {
   }
   numbers <- list(size = size, second = second)
   sizes <- lapply(names(numbers), function(what) {
-    if (is.null(numbers[[what]])) return(NULL)
+    if (what == "second" && is.null(second)) return(NULL)
     if (length(numbers[[what]]) != 1) stop_at(what, "one number is needed")
-    c(paste0("--", what), whole_text(whole_numbers(numbers[[what]], what)))
+    number <- whole_numbers(numbers[[what]], what)
+    if (number < 0) stop_at(what, whole_text(number), " is below 0")
+    c(paste0("--", what), whole_text(number))
   })
   case <- ask(c("catalogue", name, unlist(sizes)), handed("", list()))
   new_graph(case$names, case$names, case$components)

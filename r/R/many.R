@@ -26,9 +26,9 @@ rows_of_p <- function(P, graph) {
   if (!is.data.frame(P) && length(dim(P)) != 2) {
     stop_at("P", "a matrix is needed, with a row for each trial and a column for each hypothesis")
   }
-  P <- if (is_of_doubles(P)) matrix_of_doubles(P) else matrix_of_texts(P)
   n <- length(graph$names)
   if (ncol(P) != n) stop_at("P", whole_text(ncol(P)), " columns given for ", whole_text(n), " hypotheses")
+  P <- if (is_of_doubles(P)) matrix_of_doubles(P) else matrix_of_texts(P)
   given <- colnames(P)
   if (is.null(given) && any(rownames(P) %in% unlist(hypothesis_keys(graph)))) {
     stop_at("P", "its rows have the names of hypotheses, and its columns have none: a row is a trial")
@@ -87,7 +87,7 @@ report_many_rounded <- function(P) {
 decided_doubles <- function(graph, level, P) {
   text <- case_text(graph, level)
   found <- .Call(C_welungad_rows, charToRaw(text), P)
-  if (found$status == 0L && all(found$statuses %in% c(0L, 5L))) return(found)
+  if (found$status == 0L && all(found$statuses %in% c(0L, 5L)) && !anyNA(found$rejected)) return(found)
   if (found$status == 5L) return(list(rejected = matrix(FALSE, nrow(P), ncol(P)), statuses = rep(5L, nrow(P))))
   if (found$status == 8L) stop("the C library is out of memory", call. = FALSE)
   ask("canon", handed(text, graph))

@@ -5,6 +5,15 @@ longest_name <- 32L
 
 is_name <- function(text) grepl("^[A-Za-z0-9_.-]{1,32}\\z", text, perl = TRUE)
 
+# The texts of a vector, a factor, or a list of one text each.
+texts_in <- function(x, what) {
+  is_row <- is.list(x) && !is.data.frame(x) && all(lengths(x) == 1) && all(vapply(x, is.atomic, NA))
+  if (!is.atomic(x) && !is_row) stop_at(what, "texts are needed, and not an object of class ", class(x)[1])
+  texts <- as.character(x)
+  check_encoding(texts, what)
+  texts
+}
+
 # Stops unless the texts are different and none is missing or empty.
 check_distinct <- function(texts, what) {
   empty <- which(is.na(texts) | !nzchar(texts))

@@ -20,6 +20,7 @@ exact_of <- function(x, what) {
   }
   if (inherits(x, "welungad_exact")) return(x)
   if (is.character(x)) {
+    check_encoding(x, what)
     read <- trimws(as.vector(x))
     warn_written(read, what)
     read <- list(given = as.vector(x), read = read, rule = ifelse(is.na(read), "missing", "text"))
@@ -34,6 +35,12 @@ exact_of <- function(x, what) {
     stop_at(what, "numbers are doubles, integers, texts or fractions of gmp, and not of class ", class(x)[1])
   }
   new_exact(read$given, read$read, read$rule, names_in(x), dim(x), if (!is.null(dim(x))) dimnames(x))
+}
+
+# Stops at a text whose bytes are none in its encoding, as one of a file in Latin-1 that was read as UTF-8.
+check_encoding <- function(x, what) {
+  wrong <- which(!is.na(x) & (Encoding(x) == "bytes" | !validEnc(x)))
+  if (length(wrong)) stop_at(what, place_text(wrong[1], names(x)), " is ", quoted(x[wrong[1]]), ", whose bytes are not a text in its encoding")
 }
 
 # The names of the elements of an argument; gmp keeps more of them than there are elements.

@@ -18,7 +18,9 @@ graph_study <- function(case, store, looks = NULL) {
 study_text <- function(case) {
   if (inherits(case, "welungad_stages")) return(list(text = case$case, graph = case$graph))
   if (!is.character(case) && !is.raw(case)) stop_at("case", "a result of graph_stages, or the text of a case is needed")
-  list(text = rawToChar(bytes_of(case, "case")), graph = NULL)
+  bytes <- bytes_of(case, "case")
+  if (any(bytes == 0)) stop_at("case", "it has a byte 0")
+  list(text = rawToChar(bytes), graph = NULL)
 }
 
 graph_of_case <- function(case) list(names = case$names, labels = case$names)
@@ -27,6 +29,9 @@ checked_store <- function(store) {
   if (!is.character(store) || length(store) != 1 || is.na(store) || store %in% c("", ":memory:") || startsWith(store, "file:")) {
     stop_at("store", "the name of a file is needed")
   }
+  # the program reads no other words, and R would hand it a name with "<ff>" in place of such a byte
+  own <- if (Encoding(store) == "unknown") store else enc2native(store)
+  if (Encoding(store) == "bytes" || !validUTF8(own)) stop_at("store", quoted(store), " is not the name of a file in UTF-8")
   store <- path.expand(store)
   if (!dir.exists(dirname(store))) stop_at("store", "there is no folder ", quoted(dirname(store)))
   if (dir.exists(store)) stop_at("store", quoted(store), " is a folder")

@@ -45,6 +45,7 @@ stop_at <- function(what, ...) stop(what, ": ", ..., call. = FALSE)
 
 # The whole numbers that an argument has, as integers: numbers without a fraction, or texts of digits.
 whole_numbers <- function(x, what, names = NULL) {
+  if (!is.atomic(x) && !is.list(x)) stop_at(what, "a whole number is needed, and not an object of class ", class(x)[1])
   wrong <- which(!is_whole(x))
   if (length(wrong)) {
     given <- if (is_number(x)) decimal_text(x[wrong[1]], 15) else quoted(as.character(x[wrong[1]]))

@@ -236,7 +236,7 @@ static void put(SEXP result, R_xlen_t i, double x, fraction found) {
   if (rule == ROUNDED_UP) {
     shortest(x, given);
   } else {
-    snprintf(given, ROOM, "%.15g", x);
+    snprintf(given, ROOM, "%.15g", x == 0 ? 0 : x);
     with_point(given);
   }
   SET_STRING_ELT(VECTOR_ELT(result, 0), i, rule == SHORTEST_DECIMAL ? mkChar(read) : mkChar(given));

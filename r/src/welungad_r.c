@@ -20,6 +20,15 @@ __attribute__((weak)) uint8_t welungad_test_rows(const uint8_t *kase, size_t kas
 /* The room on the stack for an answer. A longer answer is asked for again, with room for it. */
 #define FIRST_ROOM 65536
 
+/* What a call of the library needs of the stack. If there is less, R stops before the call. */
+#define STACK 524288
+
+/* Whether the library that is loaded has the interface that the package was built with. If not, none of its other calls is made. */
+static int has_interface(void) { return welungad_interface() == WELUNGAD_INTERFACE; }
+
+/* Whether the library has the calls on numbers. */
+static int has_calls(void) { return has_interface() && welungad_read != NULL && welungad_test_rows != NULL; }
+
 /* Returns the words, each ended by a byte 0. */
 static const uint8_t *joined(SEXP words, size_t *len) {
   size_t all = 0;
@@ -54,16 +63,19 @@ static SEXP answer(uint8_t status, const uint8_t *text, size_t len) {
 
 static SEXP welungad_call(SEXP words, SEXP kase, SEXP proof) {
   if (TYPEOF(words) != STRSXP || TYPEOF(kase) != RAWSXP || TYPEOF(proof) != RAWSXP) error("words, a case and a proof are needed");
+  if (!has_interface()) error("the C library has another interface than the one that the package was installed with");
   const void *top = vmaxget();
   size_t words_len, case_len, proof_len, needed = 0, room = FIRST_ROOM;
   uint8_t first[FIRST_ROOM], *out = first;
   const uint8_t *w = joined(words, &words_len), *c = bytes(kase, &case_len), *p = bytes(proof, &proof_len);
+  R_CheckStack2(STACK);
   uint8_t status = welungad_run(w, words_len, c, case_len, p, proof_len, out, room, &needed);
   while (status == WELUNGAD_ROOM) {
     room = needed;
     out = (uint8_t *)R_alloc(room, 1);
     status = welungad_run(w, words_len, c, case_len, p, proof_len, out, room, &needed);
   }
+  if (needed > room) error("the C library gives no whole text");
   SEXP result = PROTECT(answer(status, out, needed));
   vmaxset(top);
   UNPROTECT(1);
@@ -71,29 +83,27 @@ static SEXP welungad_call(SEXP words, SEXP kase, SEXP proof) {
 }
 
 /* The interface of the library that the package was built with; 0 if the library that is loaded has another one. */
-static SEXP interface(void) {
-  uint32_t number = welungad_interface();
-  return ScalarInteger(number == WELUNGAD_INTERFACE ? (int)number : 0);
-}
-
-/* Whether the library has the calls on numbers. */
-static int has_calls(void) { return welungad_read != NULL && welungad_test_rows != NULL; }
+static SEXP interface(void) { return ScalarInteger(has_interface() ? WELUNGAD_INTERFACE : 0); }
 
 int library_readings(const double *doubles, size_t len, uint64_t *words) {
   if (!has_calls()) return 0;
   uint64_t *bits = (uint64_t *)R_alloc(len + 1, sizeof(uint64_t));
   memcpy(bits, doubles, len * sizeof(double));
+  R_CheckStack2(STACK);
   if (welungad_read(bits, len, words, WORDS * len) != WELUNGAD_DONE) error("the C library does not read doubles");
   return 1;
 }
 
 static SEXP has_numbers(void) { return ScalarLogical(has_calls()); }
 
-/* The marks of rows as a logical matrix with a row for each of them. */
+/* The marks of rows as a logical matrix with a row for each of them. What is neither 0 nor 1 is NA. */
 static SEXP marks_of(const uint8_t *marks, int rows, int columns) {
   SEXP result = PROTECT(allocMatrix(LGLSXP, rows, columns));
   for (int i = 0; i < rows; i++) {
-    for (int j = 0; j < columns; j++) LOGICAL(result)[i + (R_xlen_t)rows * j] = marks[(size_t)i * columns + j] == 1;
+    for (int j = 0; j < columns; j++) {
+      uint8_t mark = marks[(size_t)i * columns + j];
+      LOGICAL(result)[i + (R_xlen_t)rows * j] = mark > 1 ? NA_LOGICAL : mark;
+    }
   }
   UNPROTECT(1);
   return result;
@@ -103,7 +113,7 @@ static SEXP marks_of(const uint8_t *marks, int rows, int columns) {
  * of the call is not 0, the others mean nothing. */
 static SEXP welungad_rows(SEXP kase, SEXP p) {
   if (TYPEOF(kase) != RAWSXP || TYPEOF(p) != REALSXP || !isMatrix(p)) error("a case and a matrix of doubles are needed");
-  if (!has_calls()) error("the C library is of an earlier release, which decides no rows");
+  if (!has_calls()) error("the C library is of another release, and decides no rows here");
   const void *top = vmaxget();
   int rows = nrows(p), columns = ncols(p);
   size_t case_len, count = (size_t)rows * columns;
@@ -115,6 +125,7 @@ static SEXP welungad_rows(SEXP kase, SEXP p) {
   memset(marks, 0, count);
   memset(statuses, 0, (size_t)rows);
   const uint8_t *c = bytes(kase, &case_len);
+  R_CheckStack2(STACK);
   uint8_t status = welungad_test_rows(c, case_len, doubles, count, marks, count, statuses, (size_t)rows);
   const char *names[] = {"status", "rejected", "statuses", ""};
   SEXP result = PROTECT(mkNamed(VECSXP, names));

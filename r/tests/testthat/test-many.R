@@ -66,3 +66,11 @@ test_that("a row is too wide for the call of a block only by its decision", {
 test_that("a case that is refused is refused by its place", {
   each_way(function(way) expect_equal(refusal_of(graph_test_many(pair(), matrix(0.1, 2, 2), alpha = 0.00001))$where, refusal_of(graph_test(pair(), c(0.1, 0.1), alpha = 0.00001))$where))
 })
+
+test_that("a table of no columns is refused by their number", {
+  each_way(function(way) {
+    for (P in list(data.frame(), matrix(0, 2, 0), data.frame(a = c("0.1", "0.2")))) {
+      expect_error(graph_test_many(pair(), P), "^P: [01] columns given for 2 hypotheses$")
+    }
+  })
+})

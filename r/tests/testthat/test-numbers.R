@@ -2,6 +2,7 @@ read <- function(x) as_exact(x)$read
 
 test_that("doubles are read at the edges of the rule", {
   expect_equal(read(c(0, -0, 1)), c("0", "0", "1"))
+  expect_equal(as_exact(c(0, -0, 1, -1))$given, c("0", "0", "1", "-1"))
   expect_equal(read(c(1 / 3, 2 / 3, 1 / 7, 1 / 63)), c("1/3", "2/3", "1/7", "1/63"))
   expect_equal(read(c(0.025, 0.3333, 0.1, 0.0001)), c("1/40", "3333/10000", "1/10", "1/10000"))
   expect_equal(read(c(9999 / 10000, 1 / 9973)), c("9999/10000", "1/9973"))
@@ -110,6 +111,22 @@ test_that("the level that is not given is the one that is read", {
   expect_equal(unclass(welungad:::level_at_first), unclass(as_exact(0.025)))
 })
 
+test_that("a value that is missing is told from one that is none, whatever its bits are", {
+  # a NaN of R is missing if its low half is 1954, also with a sign, and also if it was never quiet
+  missing <- of_bits(c("7ff00000000007a2", "7ff80000000007a2", "fff80000000007a2"))
+  for (x in missing) expect_identical(as_exact(x)$read, NA_character_)
+  for (x in of_bits(c("7ff8000000000000", "fff8000000000000", "7ff0000000000001", "ffffffffffffffff"))) {
+    expect_equal(refusal_of(as_exact(x))$where, "x: the first is NaN")
+    expect_error(graph_test_many(pair(), matrix(c(0.5, x), 1)), "P: row 1, column 2 is NaN, which is not a p-value", fixed = TRUE)
+  }
+  expect_error(graph_test_many(pair(), matrix(c(0.5, missing[2]), 1)), "P: row 1, column 2 is NA, which is not a p-value", fixed = TRUE)
+  for (own in c(TRUE, FALSE)) {
+    read <- .Call(welungad:::C_welungad_readings, c(0.5, of_bits("fff8000000000000"), missing, Inf, 0.25), own)
+    expect_identical(read$read, c("1/2", rep(NA, 5), "1/4"))
+    expect_identical(read$rule, c(1L, rep(4L, 5), 1L))
+  }
+})
+
 test_that("texts and exact fractions stay as they are", {
   expect_equal(read(c("1/3", "0.1", "1-\\epsilon")), c("1/3", "0.1", "1-\\epsilon"))
   expect_equal(read(gmp::as.bigq(c(1, 2), c(3, 4))), c("1/3", "1/2"))
@@ -152,6 +169,31 @@ test_that("doubles of fractions are the ones that R computes", {
   expect_identical(welungad:::double_of(c(long, "1/2")), c(1 / 3, 1 / 2))
 })
 
+test_that("what is no fraction of two whole numbers has no double", {
+  most <- strrep("9", 38)
+  for (text in c("1/0", "0/0", paste0(most, c("/0", "/", "//1", "/1/1", "/x")), "/1", "1/2/3", "1/-2", "0x1/3", "1 /3", "NA")) {
+    expect_identical(.Call(welungad:::C_welungad_doubles, c("1/2", text, "1/4")), c(0.5, NA, 0.25), info = text)
+    expect_identical(welungad:::double_of(c(text, "1/2")), c(NA, 0.5), info = text)
+  }
+  expect_identical(welungad:::double_of(c("0", "0/7", paste0("0/", most), paste0(most, "/", most), "9007199254740993", "007/0014")),
+    c(0, 0, 0, 1, 9007199254740992, 0.5))
+  expect_identical(welungad:::double_of(character()), numeric())
+})
+
+test_that("fractions beside doubles are found, each within its own room", {
+  found <- function(x, room = 0) {
+    it <- welungad:::small_fractions(x, room)
+    ifelse(is.na(it$n), NA_character_, paste0(it$n, "/", it$d))
+  }
+  x <- c(0.1 + 0.2, 1 / 3, -0.25, 2.5, 0, 1 / 10007, NA, NaN, Inf, -Inf, 1e300)
+  expect_identical(found(x), c(NA, "1/3", "-1/4", "5/2", "0/1", NA, NA, NA, NA, NA, "1e+300/1"))
+  expect_identical(found(c(0.1 + 0.2, 0.1 + 0.2, -0.1 - 0.2), c(0, 2^-54, 2^-54)), c(NA, "3/10", "-3/10"))
+  expect_identical(found(c(0.1 + 0.2, 0.5, 0.7), 2^-50), c("3/10", "1/2", "7/10"))
+  expect_identical(found(c(0.12345, 0.5), c(NA, NaN)), rep(NA_character_, 2))
+  expect_identical(found(numeric()), logical())
+  expect_identical(found(c(9999 / 10000, 1 / 10000, 1 / 10001)), c("9999/10000", "1/10000", NA))
+})
+
 test_that("doubles of long fractions are those of gmp", {
   set.seed(12)
   digits <- function(most) paste0(sample(1:9, 1), paste(sample(0:9, sample(0:most, 1), TRUE), collapse = ""))
@@ -162,4 +204,18 @@ test_that("doubles of long fractions are those of gmp", {
   expect_identical(welungad:::double_of(most), welungad:::as_double(gmp::as.bigq(most)))
   longer <- paste0(strrep("9", 39), "/", strrep("9", 38), "7")
   expect_identical(welungad:::double_of(longer), welungad:::as_double(gmp::as.bigq(longer)))
+})
+
+test_that("a text whose bytes are not one is named", {
+  skip_if_not(l10n_info()[["UTF-8"]], "the locale is not UTF-8")
+  bytes <- "\xe9"
+  Encoding(bytes) <- "bytes"
+  each_way(function(way) {
+    for (wrong in c("0.5\xe9", bytes)) {
+      expect_error(as_exact(c("0.5", wrong)), "^x: the second is \".*\", whose bytes are not a text in its encoding$")
+      expect_error(graph_test(pair(), c(A = wrong, B = "0.5")), "^p: \"A\" is \".*\", whose bytes are not a text in its encoding$")
+      expect_error(graph_create(c("1/2", "1/2"), rbind(0:1, 1:0), hyp_names = c("A", wrong)), "^hyp_names: the second is ")
+    }
+    expect_equal(as_exact(iconv("0.5", "UTF-8", "latin1"))$read, "0.5")
+  })
 })

@@ -161,3 +161,16 @@ test_that("a graph that was changed is decided as it is", {
     expect_match(graph_canon(graph)[3], "weights 1 0")
   })
 })
+
+test_that("names and labels are texts", {
+  each_way(function(way) {
+    edges <- rbind(0:1, 1:0)
+    for (wrong in list(mean, globalenv(), quote(x), data.frame(a = c("A", "B"), b = c("C", "D")), list("A", c("B", "C")), getClass("numeric"))) {
+      expect_error(graph_create(c(1 / 2, 1 / 2), edges, hyp_names = wrong), "^hyp_names: texts are needed, and not an object of class ")
+      expect_error(graph_create(c(1 / 2, 1 / 2), edges, labels = wrong), "^labels: texts are needed, and not an object of class ")
+    }
+    for (right in list(c("A", "B"), factor(c("A", "B")), list("A", "B"), c(A = "A", B = "B"))) {
+      expect_equal(graph_create(c(1 / 2, 1 / 2), edges, hyp_names = right)$labels, c("A", "B"))
+    }
+  })
+})

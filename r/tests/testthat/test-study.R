@@ -78,3 +78,12 @@ test_that("a file of looks has its own name in a locale that is not UTF-8", {
   expect_setequal(setdiff(list.files(folder), paste0(basename(store), "-wal")), c("case.txt", basename(store), paste0(basename(store), ".case"), "script.R"))
   expect_equal(graph_study(staged(), store)$records, 1L)
 })
+
+test_that("a file of looks has a name in UTF-8, since the program reads no other", {
+  skip_if_not(l10n_info()[["UTF-8"]], "the locale is not UTF-8")
+  with_folder(function(store) {
+    expect_error(graph_study(staged(), paste0(store, "\xff")), "^store: \".*\" is not the name of a file in UTF-8$")
+    expect_error(graph_study(as.raw(0:1), store), "case: it has a byte 0", fixed = TRUE)
+    expect_equal(list.files(dirname(store)), character())
+  })
+})

@@ -52,15 +52,29 @@ test_that("no option of R changes what is handed in or printed", {
   })
 })
 
+# Makes a locale in a folder of its own, and sets its numbers. Returns whether that was possible. It is there until R ends.
+has_made_locale <- function(name) {
+  folder <- tempfile("locale-")
+  dir.create(folder)
+  words <- c("-i", sub("[.].*", "", name), "-f", "UTF-8", file.path(folder, name))
+  if (nzchar(Sys.which("localedef"))) suppressWarnings(system2("localedef", shQuote(words), stdout = FALSE, stderr = FALSE))
+  Sys.setenv(LOCPATH = folder)
+  nzchar(suppressWarnings(Sys.setlocale("LC_NUMERIC", name)))
+}
+
 test_that("a locale with a decimal comma changes nothing", {
   x <- c(1 / 3, 0.1 + 0.2, 0.025, 1.5e-30, 2^-24, 3.0000000000000004)
   plain <- list(numbers = unclass(as_exact(x)), shown = capture.output(print(as_exact(x))))
   old <- Sys.getlocale("LC_NUMERIC")
-  on.exit(suppressWarnings(Sys.setlocale("LC_NUMERIC", old)))
+  path <- Sys.getenv("LOCPATH", NA)
+  on.exit({
+    if (is.na(path)) Sys.unsetenv("LOCPATH") else Sys.setenv(LOCPATH = path)
+    suppressWarnings(Sys.setlocale("LC_NUMERIC", old))
+  })
   set <- vapply(c("de_DE.UTF-8", "de_DE.utf8", "fr_FR.UTF-8", "tr_TR.UTF-8", "nl_NL.UTF-8"), function(name) {
     nzchar(suppressWarnings(Sys.setlocale("LC_NUMERIC", name)))
   }, NA)
-  skip_if_not(any(set), "no locale with a decimal comma is there")
+  skip_if_not(any(set) || has_made_locale("de_DE.UTF-8"), "no locale with a decimal comma is there, and none can be made")
   expect_equal(Sys.localeconv()[["decimal_point"]], ",")
   expect_identical(unclass(as_exact(x)), plain$numbers)
   expect_identical(capture.output(print(as_exact(x))), plain$shown)
