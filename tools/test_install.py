@@ -19,7 +19,7 @@ NOBODY = 65534
 IS_ROOT = os.geteuid() == 0
 
 # `rt run` builds a program that prints how often it was built and the number of its words, and `rt lib` the library of STUB. With
-# EDIT, the sources are edited while they build; with FAIL, those of the library are not proved.
+# EDIT, the sources are edited while they build, and committed if it is `commit`; with FAIL, those of the library are not proved.
 RT = """#!/bin/sh
 case $1 in
 version) echo a-kit logic 1 ;;
@@ -37,6 +37,7 @@ lib)
     ;;
 esac
 if [ -n "${EDIT-}" ]; then echo edited >>src/main.rt; fi
+if [ "${EDIT-}" = commit ]; then git add . && git -c user.name=a -c user.email=a@b commit -qm edited; fi
 """
 
 # A library whose calls ask for pointers, as the proved ones do, and of which `welungad_run` answers `ok`.
@@ -709,13 +710,15 @@ class Library(Room):
         self.assertEqual(self.builds(), 9)
 
     def test_edited_meanwhile(self):
-        """Whether an edit during the build is found."""
-        self.assertEqual(self.run_script("c/build.sh", EDIT="yes")[0], 0)
-        with open(self.out("stamp"), encoding="utf-8") as file:
-            self.assertIn("built edited\n", file.read())
-        self.git("checkout", "-q", ".")
-        self.git("clean", "-fdq")
-        self.assertEqual([self.builds(), self.builds()], [2, 2])
+        """Whether an edit during the build is found, also if it is committed meanwhile."""
+        for number, edit in enumerate(("yes", "commit"), 1):
+            self.write("crates/welungad_c/src/lib.rt", f"{edit}\n")
+            self.commit()
+            self.assertEqual(self.run_script("c/build.sh", EDIT=edit)[0], 0)
+            with open(self.out("stamp"), encoding="utf-8") as file:
+                self.assertIn("built edited\n", file.read())
+            self.git("clean", "-fdq")
+            self.assertEqual([self.builds(), self.builds()], [2 * number, 2 * number])
 
     def test_not_proved(self):
         """Whether nothing is built of what isn't proved, also beside what was built before, and a later build is whole."""
@@ -871,6 +874,7 @@ class Configure(Room):
         self.assertEqual(self.run_script("install", prefix)[0], 0)
         for words, places in (
             ("no welungad.h in /nowhere/include", {"WELUNGAD_PREFIX": "/nowhere"}),
+            (f"no welungad.h in {prefix}/bin", {"WELUNGAD_INCLUDE": f"{prefix}/bin", "WELUNGAD_LIB": f"{prefix}/lib"}),
             ("WELUNGAD_INCLUDE, which is not set", {"WELUNGAD_LIB": f"{prefix}/lib"}),
             ("WELUNGAD_LIB, which is not set", {"WELUNGAD_INCLUDE": f"{prefix}/include"}),
             ("no libwelungad.a or libwelungad.so", {"WELUNGAD_INCLUDE": f"{prefix}/include", "WELUNGAD_LIB": f"{prefix}/bin"}),

@@ -65,8 +65,8 @@ static SEXP welungad_call(SEXP words, SEXP kase, SEXP proof) {
   if (TYPEOF(words) != STRSXP || TYPEOF(kase) != RAWSXP || TYPEOF(proof) != RAWSXP) error("words, a case and a proof are needed");
   if (!has_interface()) error("the C library has another interface than the one that the package was installed with");
   const void *top = vmaxget();
-  size_t words_len, case_len, proof_len, needed = 0, room = FIRST_ROOM;
   uint8_t first[FIRST_ROOM], *out = first;
+  size_t words_len, case_len, proof_len, needed = 0, room = sizeof first;
   const uint8_t *w = joined(words, &words_len), *c = bytes(kase, &case_len), *p = bytes(proof, &proof_len);
   R_CheckStack2(STACK);
   uint8_t status = welungad_run(w, words_len, c, case_len, p, proof_len, out, room, &needed);

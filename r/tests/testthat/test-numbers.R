@@ -188,7 +188,7 @@ test_that("fractions beside doubles are found, each within its own room", {
   x <- c(0.1 + 0.2, 1 / 3, -0.25, 2.5, 0, 1 / 10007, NA, NaN, Inf, -Inf, 1e300)
   expect_identical(found(x), c(NA, "1/3", "-1/4", "5/2", "0/1", NA, NA, NA, NA, NA, "1e+300/1"))
   expect_identical(found(c(0.1 + 0.2, 0.1 + 0.2, -0.1 - 0.2), c(0, 2^-54, 2^-54)), c(NA, "3/10", "-3/10"))
-  expect_identical(found(c(0.1 + 0.2, 0.5, 0.7), 2^-50), c("3/10", "1/2", "7/10"))
+  expect_identical(found(c(0.5, 0.1 + 0.2, 0.7, -0.1 - 0.2), 2^-50), c("1/2", "3/10", "7/10", "-3/10"))
   expect_identical(found(c(0.12345, 0.5), c(NA, NaN)), rep(NA_character_, 2))
   expect_identical(found(numeric()), logical())
   expect_identical(found(c(9999 / 10000, 1 / 10000, 1 / 10001)), c("9999/10000", "1/10000", NA))

@@ -86,6 +86,20 @@ test_that("a locale with a decimal comma changes nothing", {
   })
 })
 
+test_that("a decimal point of two bytes is written as one", {
+  x <- c(1 / 3, 0.1 + 0.2, 0.025, 1.5e-30, 2^-24, 3.0000000000000004, -0.5)
+  plain <- unclass(as_exact(x))
+  old <- Sys.getlocale("LC_NUMERIC")
+  path <- Sys.getenv("LOCPATH", NA)
+  on.exit({
+    if (is.na(path)) Sys.unsetenv("LOCPATH") else Sys.setenv(LOCPATH = path)
+    suppressWarnings(Sys.setlocale("LC_NUMERIC", old))
+  })
+  made <- has_made_locale("ps_AF.UTF-8")
+  skip_if_not(made && nchar(Sys.localeconv()[["decimal_point"]], "bytes") == 2, "no locale with such a point can be made")
+  expect_identical(unclass(as_exact(x)), plain)
+})
+
 test_that("sums of doubles say what was read, and how to read the fractions", {
   each_way(function(way) {
     refusal <- refusal_of(graph_create(seq(0.1, 0.4, 0.1), matrix(0, 4, 4)))
