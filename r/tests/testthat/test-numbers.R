@@ -202,7 +202,7 @@ test_that("doubles of long fractions are those of gmp", {
   expect_identical(welungad:::double_of(own), welungad:::as_double(gmp::as.bigq(own)))
   most <- paste0(strrep("9", 38), c("/1", "/7", paste0("/", strrep("9", 37), "8")))
   expect_identical(welungad:::double_of(most), welungad:::as_double(gmp::as.bigq(most)))
-  longer <- paste0(strrep("9", 39), "/", strrep("9", 38), "7")
+  longer <- c(paste0(strrep("9", 39), c("/7", paste0("/", strrep("9", 38), "7"))), paste0("7/", strrep("9", 39)))
   expect_identical(welungad:::double_of(longer), welungad:::as_double(gmp::as.bigq(longer)))
 })
 
