@@ -922,9 +922,11 @@ class Crate:
     def is_built(self): return os.path.exists(f"{self.folder}/out/rlib/stamp")
 LOW = Crate("low")
 def handles_of(top): return ()
-def crates_of(top): return [LOW, Crate("high", LOW)]
+class rtlib:
+    Crate = Crate
+    crates_below = staticmethod(lambda top: [LOW, Crate("high", LOW)])
 if __name__ == "__main__":
-    for crate in crates_of("."):
+    for crate in rtlib.crates_below("."):
         os.makedirs(crate.rlib, exist_ok=True)
         with open(f"{crate.rlib}/format", "w") as file: file.write(crate.name)
     if "EDIT" in os.environ:
