@@ -1,4 +1,4 @@
-"""Tests of report.py and of what it stands on: reports.py, refusals.py, findings.py. `tools/run_tests.sh` runs them.
+"""Tests of report.py and of what it uses: reports.py, refusals.py, findings.py. `tools/run_tests.sh` runs them.
 
     python3 test_report.py --pages N [--seed S]
 
