@@ -116,6 +116,7 @@ class Given(unittest.TestCase):
             (lambda: graph.test([0.1, -1e-9]), "^the p-value of 'B' is -1e-09"), (lambda: graph.test([0.1, 0.1], priority="none"), "^priority is one of"),
             (lambda: graph.test_many([[0.1, 0.2], [0.1]]), "^row 2 has 1 values"),
             (lambda: graph.draw(holm().test([1, 1, 1])), "^the decision is of other hypotheses"),
+            (lambda: graph.draw(pair(THIRD).test([1, 1])), "^decision is not a decision of this graph$"),
             (lambda: welungad.Graph.entangled([graph, holm()], [0.5, 0.5]), "^graph 2 has other hypotheses"),
             (lambda: welungad.Graph.entangled([graph, graph], [0.5]), "^shares has 1 values"),
             (lambda: welungad.Graph.entangled([graph, welungad.Graph({"B": 1, "A": 0}, {})], [0.5, 0.5]), "^graph 2 has .*, or another order of them$"),
@@ -147,6 +148,9 @@ class Given(unittest.TestCase):
         rows = pandas.DataFrame({"B": [0.9, 0.001], "A": [0.001, 0.9]})
         self.assertEqual(graph.test_many(rows).rejected, ((False, False), (False, True)))
         self.assertEqual(graph.test_many(pandas.DataFrame([[0.001, 0.001]], index=["trial"])).rejected, ((True, True),))
+        self.assertEqual(welungad.Graph([1, 0], {}, names=pandas.Series(["A", "B"])).names, ("A", "B"))
+        with self.assertRaisesRegex(TypeError, "^names is a list of labels in the order of the hypotheses, and has no labels itself$"):
+            welungad.Graph([1, 0], {}, names=pandas.Series({"H2": "A", "H1": "B"}))
         with self.assertRaisesRegex(ValueError, "^rows: its rows have the labels of hypotheses"):
             graph.test_many(pandas.DataFrame([[0.9, 0.001], [0.001, 0.9]], index=["A", "B"]))
         for given, message in [(pandas.DataFrame({"A": [0, 1], "B": [1, 0]}), "the columns have labels, and the others have none"),
@@ -171,6 +175,7 @@ class Answers(unittest.TestCase):
                          {"dose ü": Fraction(1, 50), "low dose": Fraction(3, 200), "H2": Fraction(1, 50)})
         self.assertIn("hypotheses dose low_dose H2\np 1/100 1/200 1/50\n", decision.case)
         self.assertEqual((0, decision.report.encode()), welungad.run(["test"], decision.case))
+        self.assertEqual((decision.names, welungad.test(decision.case).names), (DOSES, ("dose", "low_dose", "H2")))
         self.assertEqual(pickle.loads(pickle.dumps(decision)), decision)
 
     def test_an_adjusted_p_value_that_is_not_reached(self):
@@ -220,6 +225,21 @@ class Answers(unittest.TestCase):
             self.assertEqual((checked.listed, checked.kept), (("a b", "B"), ("C",)))
         self.assertEqual(graph.check([0.9, 0.9, 0.9], evidence, alpha=0.05).reason, "no: step 1: above level")
         self.assertFalse(graph.check([0.9, 0.9, 0.9], evidence))
+
+    def test_evidence_of_a_graph_with_other_labels(self):
+        # the program's names are H1 and H2 in both graphs
+        p = [0.001, 0.9]
+        first, second = (welungad.Graph([0.5, 0.5], {}, names) for names in [("α", "β"), ("β", "α")])
+        evidence = first.evidence(p)
+        self.assertEqual(first.check(p, evidence).listed, ("α",))
+        with self.assertRaisesRegex(ValueError, "^proof is evidence about other hypotheses: 'α', 'β'$"):
+            second.check(p, evidence)
+        for document in [evidence.text, welungad.evidence(evidence.case)]:
+            self.assertEqual(second.check(p, document).listed, ("β",))
+        with self.assertRaisesRegex(ValueError, "^proof is evidence about other hypotheses: 'H1', 'H2'$"):
+            pair().check(p, welungad.evidence(evidence.case))
+        self.assertEqual(welungad.Graph({"B": 0.5, "A": 0.5}, {}).check({"A": 0.001, "B": 0.9}, welungad.Graph({"A": 0.5, "B": 0.5}, {}).evidence(p)).listed,
+                         ("A",))
 
     def test_entangled(self):
         first, second = welungad.Graph([1, 0], {}), welungad.Graph([0, 1], {"H2": {"H1": 1}})
@@ -300,6 +320,9 @@ class Answers(unittest.TestCase):
             picture.save(os.path.join(room, "graph.svg"))
             with open(os.path.join(room, "graph.svg"), encoding="utf-8") as file:
                 self.assertEqual(file.read(), picture.svg)
+
+    def test_draw_a_decision_on_a_text(self):
+        self.assertIn("p 1/100", holm().draw(welungad.test(places.example("holm.txt"))).svg)
 
     def test_draw_labels_with_any_character(self):
         labels = ["a\x01b", "\udcff", "\0", "\x7f \x85", "\ufffe", "\U0001f4a7", "line\nfeed", "<&>\"'"]
