@@ -215,6 +215,8 @@ class Programs(Rooms):
         folder = self.put_package("site-packages")
         self.put("site-packages/welungad/stamp", b"sha256 libwelungad.so 00\nprogram /a folder/bin/welungad\n")
         self.assertEqual(say(folder, self.PLACES).split("\n"), ["/a folder/bin/welungad", f"{sys.prefix}/bin/welungad", ""])
+        self.put("site-packages/welungad/stamp", b"sha256 libwelungad.so 00\nprogram /\xff/welungad\n")
+        self.assertIn("b'/\\xff/welungad'", say(folder, "import os; from welungad import _program; print(*map(os.fsencode, _program.program_places()))"))
 
 
 class Stamps(Rooms):
