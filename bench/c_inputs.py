@@ -212,6 +212,7 @@ def in_batches(pool, make, count, *arguments):
 
 
 def main():
+    global PROGRAM
     parser = argparse.ArgumentParser(description=__doc__, formatter_class=argparse.RawDescriptionHelpFormatter)
     parser.add_argument("--inputs", type=int, default=10000)
     parser.add_argument("--hostile", type=int, default=10000)
@@ -219,7 +220,7 @@ def main():
     parser.add_argument("--jobs", type=int, default=os.cpu_count())
     parser.add_argument("--program", default=PROGRAM)
     options = parser.parse_args()
-    globals()["PROGRAM"] = hostile.PROGRAM = options.program
+    PROGRAM = hostile.PROGRAM = options.program
     replayer = os.path.join(HERE, "out", "c_replay")
     os.makedirs(os.path.dirname(replayer), exist_ok=True)
     subprocess.run(["cc", "-g", "-O1", "-Wall", "-Wextra", "-o", replayer, os.path.join(HERE, "c_replay.c"),
