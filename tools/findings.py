@@ -80,10 +80,10 @@ class Findings:
             return
         try:
             case = check_evidence.case_of(before.encode("latin-1"), form, alpha)
-            stages = [[value_of(word) for word in words] for words in staging]
+            stages = [*map(values_of, staging)]
         except check_evidence.Stop as stop:
             raise NotAReport(f"the program takes a case that check_evidence.py refuses: {stop.args[1].strip()}") from None
-        if case != self.case or stages != [[value_of(word) for word in words] for words in self.staging]:
+        if case != self.case or stages != [*map(values_of, self.staging)]:
             raise NotAReport("the text of canon is that of another case")
 
     def read_decision(self):
@@ -203,6 +203,12 @@ def value_of(word):
         return check_evidence.numeral(word, "")
     except check_evidence.Stop:
         return word
+
+
+def values_of(words):
+    """Returns the words of a line of stages, with values in place of numerals. A name stays, also one that looks like a numeral."""
+    named = 1 if words[0] == "stages" else 2
+    return [*words[:named], *map(value_of, words[named:])]
 
 
 def updated_edges(part, left):

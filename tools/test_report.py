@@ -550,6 +550,19 @@ class Stages(unittest.TestCase):
         with self.assertRaises(reports.NotAReport):
             report.page(given.replace("OS 4/5 0.005", "OS 4/5 0.004"), staged)
 
+    def test_names_that_look_like_numbers(self):
+        """Whether an arrival of the hypothesis 1.0 is not taken for one of the hypothesis 1, and 02 stages are 2."""
+        held = findings.Findings.__new__(findings.Findings)
+        held.given = "alpha 0.05\nhypotheses 1 1.0\nweights 1/2 1/2\nstages 02\nspend 1 1/2 1/2\nspend 1.0 1 0\narrive 1 1 0.01\n"
+        before, _ = findings.parted(held.given)
+        held.case, held.is_staged = check_evidence.read_case(before), True
+        stages = "stages 2\nspend 1 1/2 1/2\nspend 1.0 1 0\narrive {} 1 1/100\n"
+        held.staging = [line.split() for line in stages.format("1").splitlines()]
+        held.compare_with_given("text", None)
+        held.staging = [line.split() for line in stages.format("1.0").splitlines()]
+        with self.assertRaisesRegex(reports.NotAReport, "^the text of canon is that of another case$"):
+            held.compare_with_given("text", None)
+
     def test_levels(self):
         """Whether the level of a stage is that of the case, by fractions and by a table: FORMATS has both for the trial."""
         held = findings.Findings.__new__(findings.Findings)
