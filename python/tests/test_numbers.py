@@ -220,9 +220,12 @@ class Kinds(unittest.TestCase):
 
     @unittest.skipUnless(pandas, "pandas is missing")
     def test_short_floats_in_pandas(self):
-        short = numpy.array([0.1, 0.2], dtype="float32")
-        for given in [pandas.Series(short), pandas.Series(short).astype("category"), pandas.Series(short).astype(pandas.SparseDtype("float32"))]:
-            with self.subTest(given.dtype), self.assertRaisesRegex(TypeError, "^numbers is of type .*float32.*, whose numbers are not doubles"):
+        short = pandas.Series([0.1, 0.2], dtype="float32")
+        categories = short.astype("category")
+        # before 2.0, pandas turns categories into doubles
+        of_doubles = categories.dtype.categories.dtype == "float64"
+        for given in [short, short.astype(pandas.SparseDtype("float32")), short.astype("Float32"), *([] if of_doubles else [categories])]:
+            with self.subTest(given.dtype), self.assertRaisesRegex(TypeError, "^numbers is of type .*loat32.*, whose numbers are not doubles"):
                 welungad.as_exact(given)
         whole = pandas.Series([0.1, 0.2])
         for given in [whole, whole.astype("category"), whole.astype(pandas.SparseDtype("float64")), whole.astype("Float64"), whole.astype(object)]:
