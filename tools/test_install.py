@@ -591,10 +591,11 @@ class Install(Room):
         if os.path.exists(count):
             os.remove(count)
         path = f"{self.path('signals')}:{self.environment['PATH']}"
-        # under nohup a hangup is ignored, which a shell cannot undo
-        hangup = signal.signal(signal.SIGHUP, signal.SIG_DFL)
+        # under nohup a hangup is ignored, and in the background of a script an interrupt, which a shell cannot undo
+        before = {number: signal.signal(number, signal.SIG_DFL) for number in (signal.SIGHUP, signal.SIGINT)}
         status = self.run_script("install", self.prefix, PATH=path, COUNT=count)[0]
-        signal.signal(signal.SIGHUP, hangup)
+        for number, handler in before.items():
+            signal.signal(number, handler)
         shutil.rmtree(self.path("signals"))
         return status
 
