@@ -62,7 +62,7 @@ class Given(unittest.TestCase):
         self.assertEqual(holm(list(DOSES)).program_names, {"dose ü": "dose", "low dose": "low_dose", "H2": "H2"})
         graph = welungad.Graph({"B": 0.25, "A": 0.75}, {"A": {"B": 1}}, names=["A", "B"])
         self.assertEqual((graph.names, graph.components[0].weights), (("A", "B"), {"A": Fraction(3, 4), "B": Fraction(1, 4)}))
-        self.assertEqual(len(graph), 2)
+        self.assertEqual((len(graph), repr(graph)), (2, "<Graph of 'A', 'B'>"))
 
     def test_epsilon(self):
         (component,) = welungad.Graph([1, 0, 0], [[0, "1-\\epsilon", "\\epsilon"], [0, 0, "1/2*\\epsilon^2"], [0, 0, 0]]).components
@@ -348,6 +348,17 @@ class Answers(unittest.TestCase):
         ends = {title: (nearest(*points[0].split(",")), nearest(*points[-1].split(","))) for title, points in paths.items()}
         self.assertEqual(ends, {"A → B: 1/4": ("A", "B"), "C → A: 3/4": ("C", "A")})
 
+    def test_draw_legends(self):
+        """Whether the components are named with their shares, and the texts of many edges are left to the pointer."""
+        entangled = welungad.Graph.entangled([welungad.Graph([1, 0], {}), welungad.Graph([0, 1], {"H2": {"H1": 1}})], ["1/4", 0.75])
+        full = welungad.Graph([Fraction(1, 9)] * 9, [[Fraction(1, 8) if i != j else 0 for j in range(9)] for i in range(9)])
+        for graph, wanted, edges in [(entangled, {"component 1: share 1/4", "component 2: share 3/4"}, 1), (pair(), set(), 2),
+                                     (full, {"72 edges: the text of each is shown where the pointer is on it"}, 0)]:
+            drawn = xml.etree.ElementTree.fromstring(graph.draw().svg)
+            texts = [it.text for it in drawn.iter("{http://www.w3.org/2000/svg}text")]
+            self.assertEqual({it for it in texts if ": " in it}, wanted)
+            self.assertEqual(len([it for it in texts if it in ("1", "1/8")]) - (graph is entangled) * 2, edges)
+
     def test_draw_each_size(self):
         for size in [1, 2, 3, 8, 16, 40]:
             graph = welungad.Graph([Fraction(1, size)] * size, {(f"H{i}", f"H{i + 1}"): 1 for i in range(1, size)})
@@ -409,10 +420,12 @@ class Refusals(unittest.TestCase):
                 self.assertTrue(str(caught.exception).startswith(f"{where}: "))
                 self.assertTrue(str(caught.exception).endswith(f" ({line})"))
 
-    def test_row_sum(self):
-        with self.assertRaises(welungad.Refused) as caught:
-            welungad.Graph([1, 0, 0], [[0, 0, 0], [0.7, 0, 0.4], [0, 0, 0]])
-        self.assertEqual(caught.exception.where, "the edges from 'H2', which sum to 1.1")
+    def test_sums(self):
+        for weights, row, where in [([1, 0, 0], [0.7, 0, 0.4], "the edges from 'H2', which sum to 1.1"),
+                                    ([1, 0, 0], [1, 0, "\\epsilon"], "the edges from 'H2'"), (["2/3", "2/3", 0], [0, 0, 0], "weights, which sum to 4/3")]:
+            with self.subTest(where), self.assertRaises(welungad.Refused) as caught:
+                welungad.Graph(weights, [[0, 0, 0], row, [0, 0, 0]])
+            self.assertEqual(caught.exception.where, where)
 
     def test_pickle(self):
         with self.assertRaises(welungad.Refused) as caught:

@@ -214,6 +214,16 @@ class Kinds(unittest.TestCase):
             def tolist(self):
                 return self.values
 
+        class Itself:
+            """A number of a class that Python has no other one for."""
+
+            ndim = 0
+
+            def tolist(self):
+                return self
+
+        with self.assertRaisesRegex(TypeError, "^number is a number, and not of type Itself$"):
+            welungad.as_exact(Itself())
         self.assertEqual(welungad.as_exact(Column([0, "1/3"])), [0, Fraction(1, 3)])
         with self.assertRaisesRegex(TypeError, "^numbers is of type Column, whose numbers may not be doubles: give doubles"):
             welungad.as_exact(Column([0.10000000149011612]))

@@ -125,6 +125,8 @@ class Stages(unittest.TestCase):
             graph.stages(LEVELS, looks.assign(stage=pandas.Categorical(["1", "1", "2", "2"])), alpha=0.05)
         with self.assertRaisesRegex(TypeError, "^the stage of look 1 is a whole number, and not 1.9"):
             graph.stages(LEVELS, looks.assign(stage=[1.9, 1, 2, 2]), alpha=0.05)
+        with self.assertRaisesRegex(TypeError, "^the levels of 'PFS' are a list, one for each stage, and not of type Series$"):
+            graph.stages({**LEVELS, "PFS": pandas.Series([0.02, 0.03], index=["stage 1", "stage 2"])}, looks, alpha=0.05)
 
 
 if __name__ == "__main__":

@@ -48,7 +48,7 @@ class Studies(Rooms):
     def test_looks(self):
         study = welungad.Study(CASE, self.store)
         self.assertFalse(os.path.exists(self.store))
-        self.assertEqual(study.names, ("H1", "H2"))
+        self.assertEqual((study.names, repr(study)), (("H1", "H2"), f"<Study of H1, H2 in {self.store!r}>"))
         self.assertEqual(study.look("H1", 1, "0.02"), welungad.Look("H1", 1, Fraction(1, 50), ()))
         again = welungad.Study(CASE.encode(), self.store)
         replies = again.looks([("H2", 1, 0.03), ("H1", 1, 0.01), ("H1", 2, 0.01), ("H1", 3, 0.01), ("H2", 2, 0.02)])
