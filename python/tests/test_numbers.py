@@ -281,7 +281,7 @@ class Kinds(unittest.TestCase):
                 _numbers.expression(given, "it")
 
     def test_printed_doubles(self):
-        for given in ["0.3333333333333333", Decimal("0.14285714285714285"), "0.00010001000100010001"]:
+        for given in ["0.3333333333333333", Decimal("0.14285714285714285"), "0.00010001000100010001", "0.33333333333333331", "3.333333333333333148e-01"]:
             with self.subTest(given), self.assertWarnsRegex(welungad.PrintedDoubleWarning, "^number is the text '.*', which is taken as it is"):
                 self.assertEqual(welungad.as_exact(given), Fraction(given))
         with warnings.catch_warnings():

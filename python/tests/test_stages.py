@@ -45,7 +45,8 @@ class Stages(unittest.TestCase):
         for at in [{"overall survival": 1, "PFS": 0.5}, [0.5, 1], ("1/2", 1), array.array("d", [0.5, 1])]:
             self.assertEqual(trial().stages(own, LOOKS, alpha=0.05, at=at).case, half.case)
         for at, error, message in [([0.5], ValueError, "^at has 1 values, and there are 2 hypotheses$"), ({"PFS": 1}, ValueError, "^at: the hypothesis "),
-                                   (0, ValueError, "^at: the weight of 'PFS' is 0"), (None, TypeError, "^at of 'PFS' is a number, and not None$")]:
+                                   (0, ValueError, "^at of 'PFS' is 0, and not above 0 and at most 1$"), (None, TypeError, "^at of 'PFS' is a number, and not None$"),
+                                   ([1, "5/4"], ValueError, "^at of 'overall survival' is 5/4, and not above 0 and at most 1$"), ("-1/2", ValueError, "^at of 'PFS' is -1/2,")]:
             with self.subTest(at), self.assertRaisesRegex(error, message):
                 trial().stages(own, LOOKS, alpha=0.05, at=at)
 
@@ -93,6 +94,10 @@ class Stages(unittest.TestCase):
             with self.subTest(line), self.assertRaises(welungad.Refused) as caught:
                 trial().stages(levels, looks, alpha=0.05)
             self.assertEqual((caught.exception.where, caught.exception.line), (where, line))
+        for alpha in [0, "-0.05", 2]:
+            with self.subTest(alpha), self.assertRaises(welungad.Refused) as caught:
+                trial().stages(LEVELS, LOOKS, alpha=alpha)
+            self.assertEqual((caught.exception.where, caught.exception.line), ("alpha", "malformed: case: alpha"))
 
     @unittest.skipUnless(numpy, "numpy is missing")
     def test_numpy(self):

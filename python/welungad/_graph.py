@@ -8,7 +8,7 @@ from typing import Any, Callable, Dict, List, Mapping, NamedTuple, Optional, Seq
 from ._beside import BesideWarning, beside_fraction
 from ._hypotheses import (frame_labels, frame_rows, hold_labels, in_order, is_frame, names_for, order_of, rows_of, values_of)
 from ._library import Text, bytes_of, kind_of, run
-from ._numbers import Given, expression, numeral, value_of
+from ._numbers import Given, expression, known_value, numeral, value_of
 from ._page import page_of
 from ._picture import picture_of
 from ._places import place_of, sum_above, sum_text
@@ -398,8 +398,11 @@ class Graph:
         a hypothesis sum to at most its weight times alpha. As a frame of pandas it has the labels of the hypotheses on its rows
         or on its columns, and not on both. At most 12 stages.
         `looks` are the p-values in the order in which they arrive: triples of a label, a stage from 1 and a p-value, or a frame with
-        the columns hypothesis, stage and p. `at` is a number for all hypotheses, or has one for each."""
+        the columns hypothesis, stage and p. `at` is a weight above 0 and at most 1 for all hypotheses, or has one for each."""
         text = numeral(alpha, "alpha")
+        if known_value(text, "alpha") <= 0:
+            # of such a level there are no fractions, and the proved call refuses it
+            self._canon(self._case(text))
         plan: Plan = plan_of(levels, self._labels, text, at)
         lines = [Line(f"stages {plan.stages}", "levels")]
         lines += [Line(" ".join([word, self._by_label[label], *words]), f"the levels of {label!r}") for word, label, words in plan.lines]

@@ -159,11 +159,12 @@ def fraction_text(fraction: Rational) -> str:
 
 def printed_double(text: str) -> Optional[Fraction]:
     """Returns the fraction that a text is the printed double of, if the text itself is another number: 1/3 for
-    "0.3333333333333333"."""
+    "0.3333333333333333", and for what C and the files of numpy have for it."""
     if len(text) < _DIGITS_OF_A_DOUBLE or value_of(text) is None or "/" in text:
         return None
     double = float(text)
-    found = _small_fraction(double) if 0 < double <= 1 and repr(double) == text else None
+    is_printed = text in (repr(double), f"{double:.17g}", f"{double:.18e}")
+    found = _small_fraction(double) if 0 < double <= 1 and is_printed else None
     return None if found == value_of(text) else found
 
 

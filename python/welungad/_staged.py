@@ -80,20 +80,26 @@ def _spend(given: Any, label: str, level: Fraction) -> List[Spend]:
     what = f"the levels of {label!r}"
     if isinstance(given, Mapping):
         return [Spend("table", label, [numeral(weight, f"a weight in {what}"), *_list(own, label, what)]) for weight, own in given.items()]
-    texts = _list(given, label, what)
-    if not level:
-        raise ValueError(f"at: the weight of {label!r} is 0, so that levels count at no weight")
-    return [Spend("spend", label, [fraction_text(known_value(text, what) / level) for text in texts])]
+    return [Spend("spend", label, [fraction_text(known_value(text, what) / level) for text in _list(given, label, what)])]
+
+
+def _weight_at(given: Any, label: str) -> Fraction:
+    """Returns the weight at which the levels of a hypothesis count."""
+    text = numeral(given, f"at of {label!r}")
+    weight = known_value(text, "at")
+    if not 0 < weight <= 1:
+        raise ValueError(f"at of {label!r} is {text}, and not above 0 and at most 1")
+    return weight
 
 
 def _weights_at(at: Any, labels: Sequence[str]) -> List[Fraction]:
-    """Returns the weight at which the levels of each hypothesis count."""
+    """Returns the weight at which the levels of each hypothesis count, in their order."""
     values = in_order(at, labels, "at") if is_many(at) else [at] * len(labels)
-    return [known_value(numeral(value, f"at of {label!r}"), "at") for label, value in zip(labels, values)]
+    return list(map(_weight_at, values, labels))
 
 
 def plan_of(levels: Any, labels: Sequence[str], alpha: str, at: Any) -> Plan:
-    """Returns the lines of what the hypotheses spend at a level. The arguments are those of `Graph.stages`."""
+    """Returns the lines of what the hypotheses spend at a level above 0. The arguments are those of `Graph.stages`."""
     given, weights, level = _levels(levels, labels), _weights_at(at, labels), known_value(alpha, "alpha")
     lines = [line for label, own, weight in zip(labels, given, weights) for line in _spend(own, label, level * weight)]
     counts = {len(line.words) - (line.word == "table"): line.label for line in lines}
