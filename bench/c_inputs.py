@@ -3,14 +3,14 @@
 
     bench/c_inputs.py [--inputs N] [--hostile N] [--seed S] [--jobs J] [--program PATH]
 
-1. Each command on each example, and N random cases (10,000), many of them damaged. The library's status and text, through
-   welungad.py, have to be the program's.
+1. Each command on each example, and N random cases (10,000), many of them damaged. The library's status and text, by `run` of the
+   Python package, have to be the program's.
 2. N hostile calls (10,000), by bench/c_replay.c under valgrind: damaged cases, sheets and JSON; damaged and random words and
    proofs; random bytes; outputs of all sizes. Of each call it checks:
    - it reads and writes nothing past what it is given, and leaves no block;
    - its status is one of the header's;
    - a text that does not fit is reported with its length;
-   - the status and the text are those of the same call through welungad.py.
+   - the status and the text are those of the same call by `run`.
 
 Prints each difference and a line of figures for each part. Ends with status 1 if there is a difference. Needs c/out, which
 c/build.sh makes, the built program, cc and valgrind.
@@ -143,7 +143,7 @@ def checksum(text):
 
 
 def call_of(words, case, proof):
-    """Returns the answer through welungad.py: words as bytes, each ended by a byte 0, or else unreadable ones."""
+    """Returns the answer by `run`: words as bytes, each ended by a byte 0, or else unreadable ones."""
     if words and not words.endswith(b"\0"):
         return 10, b""
     return welungad.run(words.split(b"\0")[:-1], case, proof)
@@ -212,6 +212,7 @@ def in_batches(pool, make, count, *arguments):
 
 
 def main():
+    global PROGRAM
     parser = argparse.ArgumentParser(description=__doc__, formatter_class=argparse.RawDescriptionHelpFormatter)
     parser.add_argument("--inputs", type=int, default=10000)
     parser.add_argument("--hostile", type=int, default=10000)
@@ -219,7 +220,7 @@ def main():
     parser.add_argument("--jobs", type=int, default=os.cpu_count())
     parser.add_argument("--program", default=PROGRAM)
     options = parser.parse_args()
-    globals()["PROGRAM"] = hostile.PROGRAM = options.program
+    PROGRAM = hostile.PROGRAM = options.program
     replayer = os.path.join(HERE, "out", "c_replay")
     os.makedirs(os.path.dirname(replayer), exist_ok=True)
     subprocess.run(["cc", "-g", "-O1", "-Wall", "-Wextra", "-o", replayer, os.path.join(HERE, "c_replay.c"),

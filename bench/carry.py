@@ -31,7 +31,7 @@ MOST_CHECKED = 16  # hypotheses of a graph whose evidence is made and checked
 
 
 def parts_of(rng, total, count):
-    """The requested number of random whole numbers above 0 with this total."""
+    """Returns the requested number of random whole numbers above 0 with this total."""
     cuts = sorted(rng.sample(range(1, total), count - 1))
     return [b - a for a, b in zip([0, *cuts], [*cuts, total])]
 
@@ -71,7 +71,7 @@ def small(count):
 
 
 def families(_, size):
-    """Two Holm families, each hypothesis of which passes epsilon to its fellow in the other one."""
+    """Returns two Holm families, each hypothesis of which passes epsilon to the one at its place in the other family."""
     half = size // 2
     edges = {}
     for first in (0, half):
@@ -123,7 +123,7 @@ def is_unchecked(program, case):
 
 
 def cell(words, kind, size):
-    """How many graphs of a kind and a size are refused, by each command."""
+    """Returns how many graphs of a kind and a size are refused, by each command."""
     counts = [0, 0, 0]
     for n in range(words.graphs):
         case = case_of(KINDS[kind][1](random.Random(f"{words.seed}/{kind}/{size}/{n}"), size), size)

@@ -52,7 +52,7 @@ def quarter(count):
 
 
 def padded(size):
-    """A case of 64 hypotheses: its edges, with a comment and a blank line after each, and comments up to the size."""
+    """Returns a case of 64 hypotheses with a comment and a blank line after each edge, and comments up to the size."""
     head, *edges = full(64).split("\nedge ")
     text = head + "\n" + "".join(f"edge {edge.strip()}\n# a comment behind this edge\n \t\n" for edge in edges)
     comment = "   # a line that says nothing of the case\n"

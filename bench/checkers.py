@@ -47,14 +47,14 @@ def run(words, given):
 
 
 def shares(rng, count):
-    """The requested number of fractions, which sum to at most 1."""
+    """Returns the requested number of fractions, which sum to at most 1."""
     parts = [rng.randrange(0, 5) for _ in range(count)]
     total = sum(parts) + rng.choice([0, 0, 0, 1, 2])
     return [Fraction(part, total or 1) for part in parts]
 
 
 def edges_of(rng, size, with_epsilon):
-    """The expressions of the edges of a component, at pairs."""
+    """Returns the expressions of the edges of a component, by their pairs."""
     edges = {}
     for i in range(size):
         others = [j for j in range(size) if j != i]
@@ -119,7 +119,7 @@ class Made:
 
 
 def other_number(rng, lines, text):
-    """Another number in the place of a number of evidence: one near it, one of another line, or any."""
+    """Returns another number for the place of a number of evidence: one near it, one of another line, or any."""
     kind = rng.randrange(3)
     if kind == 0 and "[" not in text:
         return str(Fraction(text) + Fraction(rng.choice([-1, 1]), rng.choice([3, 60, 1000, 10**12])))
@@ -158,7 +158,7 @@ def damaged_lines(rng, lines, names):
 
 
 def damaged(rng, made, text):
-    """The case and the document after a change of one of them."""
+    """Changes the case or the document, and returns the document."""
     if rng.random() < 0.15:
         k = rng.randrange(made.size)
         made.p[k] = rng.choice([Fraction(0), Fraction(1), made.p[k] / 2, min(Fraction(1), made.p[k] * 2), Fraction(1, 100)])
@@ -187,7 +187,7 @@ def is_refused_for_size(status, text, evidence):
 
 
 def compare(made, evidence, room, what):
-    """What both checkers say of a document: a word for the counts, or a disagreement."""
+    """Returns what both checkers say of a document: words for the counts, and the disagreement if there is one."""
     case = made.bytes()
     path = os.path.join(room, f"proof-{os.getpid()}")
     with open(path, "w", encoding="latin-1", newline="") as file:
@@ -206,7 +206,7 @@ def compare(made, evidence, room, what):
 
 
 def check_one(task):
-    """The comparisons on the case of a number: of the document, and of a damaged one."""
+    """Compares on the case of a number: the document, and a damaged one."""
     seed, number, room, with_damage = task
     rng = random.Random(f"{seed}/{number}")
     made = Made(rng, number, 7)
@@ -224,7 +224,7 @@ def check_one(task):
 
 
 def own_one(task):
-    """The comparisons on the documents that make_evidence.py makes for the case of a number."""
+    """Compares the documents that make_evidence.py makes for the case of a number."""
     seed, number, room, _ = task
     rng = random.Random(f"{seed}/own/{number}")
     made = Made(rng, number, 7)
@@ -245,7 +245,7 @@ def own_one(task):
 
 
 def decide_one(task):
-    """The comparison of the decision on the case of a number, and of the weights of its sets."""
+    """Compares the decision on the case of a number, and the weights of its sets."""
     seed, number, _, _ = task
     rng = random.Random(f"{seed}/closed/{number}")
     made = Made(rng, number, 6)

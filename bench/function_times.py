@@ -10,8 +10,9 @@ between two files is what the second took. To measure a check from nothing, with
     (cd crates/CRATE && rm -rf out/incremental && rt check --jobs 1)
     bench/function_times.py CRATE --newer /tmp/begin
 
-`rt check` may begin with what another checkout kept; modules that are older than FILE are left out. The seconds are those of the
-clock, so they are of use only for comparisons within a run.
+If another checkout on this machine has checked the crate, `rt check` begins with the modules that it kept. These are older than FILE
+and are left out, so the times are then of the others alone. The seconds are those of the clock, so they are of use only for
+comparisons within a run.
 
 The parts of a function: `Code` and `Lts` are its code and its transitions, `Reads`, `Layout`, `Kinds` and `Named` what these rest
 on, `Goals`, `Answers` and `Proof` what has to be proved and the search for it, `Tie`, `Met` and `Paired` what leads to the contract.
@@ -22,8 +23,9 @@ import pathlib
 import signal
 
 CRATES = pathlib.Path(__file__).resolve().parent.parent / "crates"
-DERIVED = {"Debug": "derived Debug", "PartialEq": "derived Eq, Ord", "Eq": "derived Eq, Ord", "PartialOrd": "derived Eq, Ord", "Ord": "derived Eq, Ord"}
-PARTS = {"Code", "Lts", "Reads", "Layout", "Kinds", "Named", "Statement", "Symbol", "Given", "Invariants", "Goals", "Answers", "Proof", "Carried", "Met", "Pair", "Paired", "Tie", "TheLink"}
+DERIVED = {"Debug": "derived Debug", **dict.fromkeys(("PartialEq", "Eq", "PartialOrd", "Ord"), "derived Eq, Ord")}
+PARTS = set("""Code Lts Reads Layout Kinds Named Statement Symbol Given Invariants Goals Answers Proof Carried Met Pair Paired Tie
+TheLink""".split())
 
 
 def modules_of(crate, newer):

@@ -5,11 +5,12 @@
     bench/gate_minutes.py table FILE [BEFORE]
 
 `sample` looks at the processes of this machine each 0.4 seconds, until it is interrupted, and writes to FILE the processor time
-of each prover: by crate, and by whether it proved the crate, its tests or a planted bug. Begin it just before the gate:
+of each prover: by crate, and by whether it proved the crate, its tests or a planted bug. Begin it just before the gate. `rt ci` takes
+over what an earlier run on this machine proved from the same files, so have it prove all anew:
 
     bench/gate_minutes.py sample /tmp/gate.json &
     sampler=$!
-    rt ci
+    rt ci --anew
     kill $sampler
 
 `table` prints the rows of the table in bench/README.md, in the order of crates.txt; with the FILE of an earlier run, also the

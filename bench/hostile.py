@@ -82,7 +82,7 @@ def run(words, given=b""):
 
 
 def shares(rng, count, full=True):
-    """So many fractions that sum to at most 1."""
+    """Returns the requested number of fractions, which sum to at most 1."""
     parts = [rng.randrange(0, 5) for _ in range(count)]
     if sum(parts) == 0:
         parts[rng.randrange(count)] = 1
@@ -91,7 +91,7 @@ def shares(rng, count, full=True):
 
 
 def spelt(rng, value):
-    """A fraction, in one of its spellings."""
+    """Returns a fraction in one of its spellings."""
     if value.denominator in (1, 2, 4, 5, 8, 10, 20, 25, 40, 50, 100) and rng.random() < 0.4:
         digits = f"{float(value):.6f}".rstrip("0")
         return digits + "0" if digits.endswith(".") else digits
@@ -133,7 +133,7 @@ def p_value(rng):
 
 
 def spend_lines(rng, name, count, alpha):
-    """Fractions of the level, or a table of one or two steps whose levels never fall."""
+    """Returns fractions of the level, or a table of one or two steps whose levels never fall."""
     if rng.random() < 0.7:
         return [f"spend {name} " + " ".join(spelt(rng, part) for part in shares(rng, count))]
     begins = sorted(rng.sample([Fraction(1, 8), Fraction(1, 4), Fraction(1, 2), Fraction(1)], rng.randrange(1, 3)))
@@ -190,7 +190,7 @@ def changed_bytes(rng, text):
 
 
 def changed_pieces(rng, text, between):
-    """Lines, or other items between such marks: one is removed, repeated, moved or shuffled."""
+    """Removes, repeats, moves or shuffles one of the lines, or of other items between these marks."""
     pieces = text.split(between)
     kind = rng.randrange(4)
     at = rng.randrange(len(pieces))
@@ -215,7 +215,7 @@ def changed_word(rng, text):
 
 
 def places(value, path=()):
-    """The paths of all values in a JSON value."""
+    """Returns the paths of all values in a JSON value."""
     found = [path]
     inner = value.items() if isinstance(value, dict) else enumerate(value) if isinstance(value, list) else []
     for key, part in inner:
@@ -224,7 +224,7 @@ def places(value, path=()):
 
 
 def changed_value(rng, text):
-    """One value of a JSON text is replaced, goes, or gets a fellow."""
+    """Replaces or removes a value of a JSON text, or puts another one beside it."""
     try:
         whole = json.loads(text)
     except ValueError:
@@ -248,7 +248,7 @@ def changed_value(rng, text):
 
 
 def changed_cell(rng, text):
-    """A cell of a sheet is replaced, or a record or a column goes or comes again."""
+    """Replaces, removes or adds a cell of a sheet."""
     rows = list(csv.reader(io.StringIO(text.replace("\0", "").replace("\r", ""))))
     rows = [row for row in rows if row] or [["hypothesis"]]
     row = rng.choice(rows)
@@ -282,7 +282,7 @@ def damaged(rng, form, text):
 
 
 def lines_of(text, word):
-    """The words after a first word of lines, line by line."""
+    """Returns the other words of the lines that begin with a word, line by line."""
     lines = (line.split(" ") for line in text.decode().splitlines())
     return [line[1:] for line in lines if line[0] == word]
 
@@ -292,7 +292,7 @@ def named(text, word):
 
 
 def in_form(form, text):
-    """The words for the form of a case; a sheet has no level, so that of the text is among them."""
+    """Returns the words for the form of a case; a sheet has no level, so that of the text is among them."""
     return ["--form", form] + (["--alpha", named(text, "alpha")[0]] if form == "csv" else [])
 
 
@@ -304,7 +304,7 @@ def hold_canon(words, given):
 
 
 def hold_forms(rng, command, text, answer):
-    """The sheet and the JSON of a case lead back to its text, and are answered as it is."""
+    """Holds the sheet and the JSON of a case to its text: they lead back to it, and are answered as it is."""
     for form in ("csv", "json"):
         status, there = run(["canon", "--to", form], text)
         if status != 0:
@@ -319,7 +319,7 @@ def hold_forms(rng, command, text, answer):
 
 
 def at_level(text, level):
-    """The canonical text of a case, at another level."""
+    """Returns the canonical text of a case at another level."""
     return f"alpha {level}\n".encode() + text[text.index(b"\n") + 1 :]
 
 
@@ -343,13 +343,13 @@ def hold_levels(text, decided):
 
 
 def weights_of(text):
-    """For each intersection the weights of its hypotheses."""
+    """Returns for each intersection the weights of its hypotheses."""
     told = [[pair.rsplit("=", 1) for pair in line] for line in lines_of(text, "set")]
     return [{name: Fraction(weight) for name, weight in line} for line in told]
 
 
 def closed_by(weights, p, alpha):
-    """The intersections that the closed test rejects, by its definition, from the weights of all."""
+    """Returns the intersections that the closed test rejects, by its definition, and all intersections."""
     local = {frozenset(line): any(u > 0 and p[k] <= u * alpha for k, u in line.items()) for line in weights}
     return {one for one in local if all(local[other] for other in local if one <= other)}, list(local)
 
@@ -397,7 +397,7 @@ def checked(text, proof):
 
 
 def hold_proof(text, proof, rejected):
-    """A proof that is found good lists rejected hypotheses, and all of them if it says what is kept."""
+    """Holds a proof that is found good to the rejected hypotheses: it lists no others, and all of them if it says what is kept."""
     status, verdict = checked(text, proof)
     if status == 0:
         listed = named(verdict, "listed")
@@ -408,7 +408,7 @@ def hold_proof(text, proof, rejected):
 
 
 def made_up(rng, text, rejected):
-    """A proof of a few hypotheses with flows at random."""
+    """Returns a proof of a few hypotheses with flows at random."""
     names = named(text, "hypotheses")
     graphs = max(1, len(lines_of(text, "component")))
     steps = rng.sample(names, rng.randrange(0, min(4, len(names) + 1)))
@@ -451,7 +451,7 @@ def hold_test(rng, text, decided):
 
 
 def hold_looks(rng, text, settled):
-    """The same looks in another order reject the same, and a study of them settles alike."""
+    """Holds the same looks in another order to the same rejections, and a study of them to the same replies."""
     lines = text.decode().splitlines()
     arrivals = [line for line in lines if line.startswith("arrive ")]
     others = [line for line in lines if not line.startswith("arrive ")]
@@ -503,7 +503,7 @@ def hold(rng, form, words, given):
 
 
 def hold_words(rng):
-    """Words at random; a case on standard input that any command can read."""
+    """Runs words at random twice, with a case on standard input that any command can read."""
     words = [rng.choice(WORDS) for _ in range(rng.randrange(0, 6))]
     given = b"alpha 1/20\nhypotheses H1 H2\np 1/100 1/2\nweights 1/2 1/2\n"
     first = run(words, given)
@@ -512,7 +512,7 @@ def hold_words(rng):
 
 
 def hold_named(rng):
-    """A named graph is its own canonical text, and a sample is always the same."""
+    """Holds a named graph to its own canonical text, and a sample to the same one."""
     if rng.random() < 0.5:
         words = ["sample", "--size", str(rng.randrange(1, 65)), "--seed", str(rng.randrange(2**48))]
         first = run(words)
@@ -528,7 +528,7 @@ def hold_named(rng):
 
 
 def in_some_form(rng, text):
-    """A case in one of the forms, and the words that say in which."""
+    """Returns a form, the words for it, and the case in it."""
     form = rng.choice(["text", "csv", "json"])
     given = text.encode("latin-1")
     if form != "text":
@@ -564,12 +564,12 @@ def begin(program, room, have):
 
 
 def standing():
-    """The commands that the program has."""
+    """Returns the commands that the program has."""
     return {line.split(" ")[0] for line in run(["help"])[1].decode().splitlines()}
 
 
 def tried(given, jobs):
-    """The inputs by their status, and how many findings there are."""
+    """Returns the number of inputs by their status, and of findings."""
     counts, findings = {}, 0
     with tempfile.TemporaryDirectory(prefix="welungad-") as room:
         begin(given.program, room, standing())

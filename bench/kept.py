@@ -1,14 +1,16 @@
 #!/usr/bin/env python3
-"""Lets `rt lib` and `rt run` use the libraries that `rt ci` has just proved in this checkout.
+"""Lets `rt lib` and `rt run` use the libraries that `rt ci` has just passed in this checkout.
 
     bench/kept.py
 
-`rt ci` leaves each library in out/ without the stamp by which other commands of rt know it, so they would prove all of them once
-more. This script writes the stamps, with rt's own words for them, lowest first. Only .ci/run calls it, right after `rt ci`. It gives
-a stamp to a library only if all of these hold:
+`rt ci` proves each library, or takes over what an earlier `rt ci` on this machine proved from the same files over the same libraries.
+Either is left in out/ without the stamp by which other commands of rt know a library, so these would prove it once more. This script
+writes the stamps, with rt's own words for them, lowest first. Only .ci/run calls it, right after `rt ci`. It gives a stamp to a library
+only if all of these hold:
 - .ci/run has written .ci/out/proved in the same run, so the number of its process is that of this script's parent;
 - the sources are committed, and are those that the file names;
-- the library has the checksum that the file names, and all libraries below it have stamps.
+- the library has the checksum that the file names; the file leaves out those that were in out/ before, which `rt ci` puts back;
+- it has no stamp yet, and all libraries below it have been given theirs.
 Else, and if the kit has other words, it gives none, and the commands take longer.
 """
 import hashlib
@@ -37,7 +39,7 @@ def sources():
 
 
 def proved():
-    """Returns the checksum of each library that this run of .ci/run has proved, by the path of its file `format`."""
+    """Returns the checksum of each library with which this run of .ci/run has passed, by the path of its file `format`."""
     try:
         with open(NOTE, encoding="utf-8") as file:
             run, built, *libraries = file.read().splitlines()
@@ -51,9 +53,9 @@ def proved():
 
 
 def is_proved(crate, checksums):
-    """Whether the library of a crate is the one that was proved."""
+    """Whether the library of a crate is the one that was proved, and no other command of rt has made it."""
     path = f"crates/{crate.name}/out/rlib/{crate.name}.rlib/format"
-    if not os.path.isfile(path):
+    if not os.path.isfile(path) or os.path.exists(stamp_path(crate)):
         return False
     with open(path, "rb") as file:
         return checksums.get(path) == hashlib.sha256(file.read()).hexdigest()
@@ -69,25 +71,17 @@ def words_of_rt():
     return module
 
 
-def sum_once(crates):
-    """Has the sum of a crate's sources and of those below computed once; rt makes it anew on each way from one crate to another."""
-    plain, sums = crates.stamp, {}
-
-    def stamp_once(crate):
-        if crate.folder not in sums:
-            sums[crate.folder] = plain(crate)
-        return sums[crate.folder]
-
-    crates.stamp = stamp_once
+def stamp_path(crate):
+    return f"{crate.folder}/out/rlib/stamp"
 
 
 def stamp(crate, checksums, done):
-    """Writes the stamp of a proved library whose libraries below have theirs; returns whether it has one."""
+    """Writes the stamp of a proved library if those below it have been given theirs. Returns whether it has been given one."""
     if crate.name not in done:
         below = [stamp(it, checksums, done) for it in crate.below()]
         is_known = all(below) and not crate.is_program and is_proved(crate, checksums)
-        if is_known and not crate.is_built():
-            with open(f"{crate.folder}/out/rlib/stamp", "w", encoding="utf-8") as file:
+        if is_known:
+            with open(stamp_path(crate), "x", encoding="utf-8") as file:
                 file.write(crate.stamp())
         done[crate.name] = is_known and crate.is_built()
     return done[crate.name]
@@ -99,7 +93,6 @@ def main():
     checksums = proved()
     rt = words_of_rt()
     rt.Crate.allowed = rt.handles_of(TOP)
-    sum_once(rt.rtlib.Crate)
     done = {}
     for crate in rt.rtlib.crates_below(TOP):
         stamp(crate, checksums, done)

@@ -74,7 +74,7 @@ def found(what):
 
 
 def run(words, case=TWO):
-    """The status and the text of a run, in the present folder."""
+    """Returns the status and the text of a run in the present folder."""
     done = subprocess.run([PROGRAM, *words], input=case.encode(), stdout=subprocess.PIPE, stderr=subprocess.PIPE, timeout=600)
     if done.stderr:
         found(f"errors are written by {words}: {done.stderr[:80]!r}")
@@ -99,7 +99,7 @@ def anew():
 
 
 def kept(path="looks.db"):
-    """The rows of a file, as Python's own SQLite reads them."""
+    """Returns the rows of a file, as Python's own SQLite reads them."""
     connection = sqlite3.connect(path)
     try:
         return connection.execute("SELECT hypothesis, stage, p FROM looks ORDER BY place").fetchall()
@@ -116,7 +116,7 @@ def write(statements, path="looks.db"):
 
 
 def row(values, place=None):
-    """The statement that puts a row, its values as SQL writes them."""
+    """Returns the statement that puts a row, its values as SQL writes them."""
     if place is None:
         return [f"INSERT INTO looks (hypothesis, stage, p) VALUES ({values})"]
     return [f"INSERT INTO looks (place, hypothesis, stage, p) VALUES ({place}, {values})"]
@@ -140,7 +140,7 @@ def hold_runs():
 
 
 def hold_file_alone():
-    """The file holds all looks without the log beside it, and a name with a blank is a name."""
+    """Holds that a file has all looks without the log beside it, also under a name with a blank."""
     anew()
     study(FIRST, "--store=a study.db")
     os.mkdir("alone")
@@ -159,7 +159,7 @@ def hold_json():
 
 
 def hold_no_file():
-    """What is refused before the looks are requested makes no file, and reads none."""
+    """Holds that what is refused before the looks are requested makes no file, and reads none."""
     rows = [
         ("a word too many", (FIRST, ["more", *STORE], TWO), (2, "usage: word 3\n")),
         ("the store twice", (FIRST, [*STORE, "--store=other.db"], TWO), (2, "usage: word 5\n")),
@@ -268,7 +268,7 @@ def hold_rows():
 
 
 def full(count, stages):
-    """So many hypotheses of equal weight, with equal edges from each to each other, that spend equal parts at each stage."""
+    """Returns a case of hypotheses of equal weight with equal edges between all, which spend equal parts at each stage."""
     names = [f"H{i + 1}" for i in range(count)]
     lines = ["alpha 0.05", "hypotheses " + " ".join(names), "weights " + " ".join([f"1/{count}"] * count)]
     lines += [f"edge {a} {b} 1/{count - 1}" for a in names for b in names if a != b]
@@ -277,7 +277,7 @@ def full(count, stages):
 
 
 def mixed(count, stages, step, p):
-    """All looks, each as hypothesis from 0, stage and value, in a mixed order: each the same number of places after the one before."""
+    """Returns all looks, as hypothesis from 0, stage and value, each the same number of places after the one before."""
     places = [at * step % (count * stages) for at in range(count * stages)]
     return [(place // stages, place % stages + 1, p(at)) for at, place in enumerate(places)]
 
@@ -287,7 +287,7 @@ def commands_of(looks):
 
 
 def hold_hundred():
-    """Two runs that keep a hundred looks in a file print, one after the other, what one run in memory prints."""
+    """Holds two runs that keep a hundred looks in a file to what one run in memory prints."""
     anew()
     case = full(10, 10)
     looks = mixed(10, 10, 37, lambda at: "1/32768" if at % 40 == 5 else f"{2 * at + 1}/512")
@@ -304,12 +304,12 @@ def hold_hundred():
 
 
 def log_size():
-    """The size of the log beside the file."""
+    """Returns the size of the log beside the file."""
     return os.path.getsize("looks.db-wal") if os.path.exists("looks.db-wal") else 0
 
 
 def hold_killed():
-    """A run that is killed keeps the looks that it has taken, and they are the first ones."""
+    """Holds that a run that is killed keeps the looks that it has taken, and that they are the first ones."""
     case = full(12, 12)
     looks = mixed(12, 12, 35, lambda at: f"{2 * at + 1}/512")
     for size in (1, 40_000, 400_000):
@@ -339,7 +339,7 @@ def timed(action):
 
 
 def hold_speed(most):
-    """The opening of a file with all looks that there can be, each kind the least of five times."""
+    """Times the opening of a file with all looks that there can be: of each kind the least of five times."""
     case = full(64, 12)
     names = " ".join(f"H{i + 1}" for i in range(64))
     kinds = {

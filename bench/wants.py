@@ -44,7 +44,7 @@ SECONDS = 60
 # A table of acceptance, which a build with checks runs slowly.
 TABLE_SECONDS = 600
 
-# A program that tells which runs of its tables end otherwise.
+# A program that prints which runs of its tables end otherwise.
 ACCEPTANCE = ("acceptance",)
 
 LIBRARY = """//! The switches of a copy.
@@ -122,7 +122,7 @@ unsigned wants_refused(unsigned place) {
 }
 """
 
-# What stands for want of memory where the error isn't an enum with `NoMemory`.
+# What out-of-memory is if the error is not an enum with `NoMemory`.
 OTHERS = {
     "NoMemory": "NoMemory",
     "AllocError": "AllocError",
@@ -134,7 +134,7 @@ OTHERS = {
 
 
 def skip_space(text, at):
-    """Past blanks and comments."""
+    """Returns the place after blanks and comments."""
     while True:
         found = re.compile(r"\s+|//[^\n]*").match(text, at)
         if not found:
@@ -147,7 +147,7 @@ QUOTED = re.compile(r'"(?:[^"\\]|\\.)*"|\'(?:[^\\\']|\\[^\']+|\\\')\'', re.S)
 
 
 def skip_brackets(text, at):
-    """Past the bracket at a place, with all that it holds."""
+    """Returns the place after the bracket at a place and all that it holds."""
     depth = 0
     while True:
         if text.startswith("//", at):
@@ -166,7 +166,7 @@ def skip_brackets(text, at):
 
 
 def skip_parameters(text, at):
-    """Past the type parameters and the parameters of a function whose name ends at a place."""
+    """Returns the place after the type parameters and the parameters of a function whose name ends at a place."""
     depth = 0
     while depth or text[at] != "(":
         depth += text[at] == "<"
@@ -176,8 +176,8 @@ def skip_parameters(text, at):
 
 
 def body_of(text, at):
-    """The result's type, and the place behind the opening brace of the body, of the function whose parameters end there.
-    No place: a method without body."""
+    """Returns the type of the result of the function whose parameters end at a place, and the place after the opening brace of its
+    body; no place for a method without body."""
     at = skip_space(text, at)
     begun, result = at, None
     while True:
@@ -200,7 +200,7 @@ def body_of(text, at):
 
 
 def error_of(result):
-    """The error's type of a result, without its own parameters, or the type of a fault that is the result itself."""
+    """Returns the type of a result's error, without its own parameters, or the result itself if it is a fault."""
     result = re.sub(r"\s+", " ", result).strip()
     found = re.match(r"-> Result<(.*)>$", result)
     if not found:
@@ -231,8 +231,8 @@ def is_of_tests(crate):
 
 
 def tables_of(crate):
-    """The words of the program acceptance, each of which names a table, but the one that takes ten minutes in a build with checks:
-    other tables come to all functions that it comes to."""
+    """Returns the words of the program acceptance, each of which names a table. One is left out, which takes ten minutes in a build
+    with checks: other tables come to all functions that it comes to."""
     tables = open(f"{TOP}/crates/{crate}/args", encoding="utf-8").read().split("\n")[:-1]
     return [it for it in tables if it != "sixteen.rows"]
 
@@ -246,7 +246,7 @@ def sources(top):
 
 
 def functions_of(crate, file, text, traits, wanted):
-    """The public functions of a file that can answer want of memory, and the methods of public traits."""
+    """Yields the public functions of a file that can return out-of-memory, and such methods of public traits."""
     tests = text.find("#[cfg(test)]\nmod tests {")
     text = text if tests < 0 else text[:tests]
     owners = []
@@ -326,11 +326,11 @@ class Copy:
         )
 
     def layer_of(self, crate):
-        """The crate itself, and the first crate of tests that uses it."""
+        """Returns the crate itself, and the first crate of tests that uses it."""
         return [crate, *[it for it, below in self.uses.items() if it.startswith("tests_") and crate in below][:1]]
 
     def users_of(self, crate):
-        """The crates with tests that use a crate, nearest first."""
+        """Returns the crates with tests that use a crate, nearest first."""
         found, ring = [crate], [crate]
         while ring:
             ring = [it for it, below in self.uses.items() if it not in found and set(below) & set(ring)]
@@ -356,7 +356,7 @@ class Tests:
         self.names, self.slow, self.seen, self.known = [], [], {}, {}
 
     def sum(self):
-        """Of all that the tests are built from."""
+        """Returns a checksum of all that the tests are built from."""
         below, ring, sum_ = {self.crate}, [self.crate], hashlib.sha256(LIBRARY.encode() + CODE.encode())
         while ring:
             ring = [it for crate in ring for it in self.copy.uses.get(crate, []) if it not in below]
@@ -388,14 +388,14 @@ class Tests:
             path = f"{self.room}/seen-{name}"
             bytes_ = open(path, "rb").read() if os.path.exists(path) else b""
             self.seen[name] = {place for place, byte in enumerate(bytes_) if byte}
-        # Where a test fails though no switch is on, its failing tells nothing.
+        # A test that fails though no switch is on shows nothing.
         never = len(self.copy.functions)
         self.slow += [name for name in self.names if self.seen[name] and self.fails(name, never)]
         self.names = [name for name in self.names if name not in self.slow]
         return ""
 
     def made(self):
-        """Builds the tests and runs them once; what is said where they aren't built."""
+        """Builds the tests and runs them once. Returns what is said if they are not built."""
         shutil.rmtree(self.room, ignore_errors=True)
         os.makedirs(self.room)
         flags = f'-DROOM="\\"{self.room}\\"" -DCOUNT={len(self.copy.functions)}'
@@ -422,7 +422,7 @@ class Tests:
         return "" if re.search(is_ended, said) else said or "nothing is said"
 
     def refuses(self, number):
-        """The first test that fails with a switch on, and the tests that come to it."""
+        """Returns the first test that fails with a switch on, and the tests that come to it."""
         if number not in self.known:
             coming = [name for name in self.names if number in self.seen[name]]
             self.known[number] = next((name for name in coming if self.fails(name, number)), None), coming
@@ -453,8 +453,8 @@ class Tests:
 
 
 def built(copy, crate, chosen):
-    """The tests of a crate, tried on its own functions; none where they don't pass with all switches off. Where a switch
-    doesn't compile, it is taken out and all is built anew."""
+    """Builds the tests of a crate, and tries them on its own functions; nothing if they do not pass with all switches off. A switch
+    that does not compile is taken out, and all is built anew."""
     tests = Tests(copy, crate)
     while True:
         state = copy.state
@@ -477,7 +477,7 @@ def built(copy, crate, chosen):
 
 
 def tried(copy, tests, chosen, jobs):
-    """What becomes of each function: the crate and the test that refuse it, or the tests that come to it."""
+    """Returns what becomes of each function: the crate and the test that refuse it, or the tests that come to it."""
 
     def answer(number):
         function, coming = copy.functions[number], []
@@ -494,7 +494,7 @@ def tried(copy, tests, chosen, jobs):
 
 
 def run(copy, chosen, by, jobs):
-    """The tests of the functions' layers and of acceptance, and of the users of those that are still left then."""
+    """Tries the tests of the functions' layers and of acceptance, and then of the users of those that are left."""
     tests = {}
 
     def build(crates):

@@ -122,7 +122,7 @@ def _add_library(package: str) -> bool:
     copy = os.path.join(package, _LIBRARY)
     shutil.copyfile(path, copy)
     program = next((path for path in _program.program_places() if os.path.isfile(path) and "\n" not in path), None)
-    with open(copy, "rb") as file, open(os.path.join(package, "stamp"), "w", encoding="utf-8") as stamp:
+    with open(copy, "rb") as file, open(os.path.join(package, "stamp"), "w", encoding="utf-8", errors="surrogateescape") as stamp:
         stamp.write(f"sha256 {_LIBRARY} {hashlib.sha256(file.read()).hexdigest()}\n")
         stamp.write(f"program {program}\n" if program else "")
     return True

@@ -80,10 +80,10 @@ class Findings:
             return
         try:
             case = check_evidence.case_of(before.encode("latin-1"), form, alpha)
-            stages = [[value_of(word) for word in words] for words in staging]
+            stages, own = ([*map(values_of, lines)] for lines in (staging, self.staging))
         except check_evidence.Stop as stop:
             raise NotAReport(f"the program takes a case that check_evidence.py refuses: {stop.args[1].strip()}") from None
-        if case != self.case or stages != [[value_of(word) for word in words] for words in self.staging]:
+        if case != self.case or stages != own:
             raise NotAReport("the text of canon is that of another case")
 
     def read_decision(self):
@@ -197,12 +197,10 @@ def parted(text):
     return "\n".join(lines[:at]) + ("\n" if at < len(lines) else ""), [it for it in words if it and it[0][0] != "#"]
 
 
-def value_of(word):
-    """Returns the number that a word denotes; a word that is not a numeral stays."""
-    try:
-        return check_evidence.numeral(word, "")
-    except check_evidence.Stop:
-        return word
+def values_of(words):
+    """Returns the words of a line of stages, with values in place of numerals. A name stays, also one that looks like a numeral."""
+    named = 1 if words[0] == "stages" else 2
+    return [*words[:named], *(check_evidence.numeral(word, f"the line {words[0]}") for word in words[named:])]
 
 
 def updated_edges(part, left):

@@ -591,10 +591,11 @@ class Install(Room):
         if os.path.exists(count):
             os.remove(count)
         path = f"{self.path('signals')}:{self.environment['PATH']}"
-        # under nohup a hangup is ignored, which a shell cannot undo
-        hangup = signal.signal(signal.SIGHUP, signal.SIG_DFL)
+        # under nohup a hangup is ignored, and in the background of a script an interrupt, which a shell cannot undo
+        before = {number: signal.signal(number, signal.SIG_DFL) for number in (signal.SIGHUP, signal.SIGINT)}
         status = self.run_script("install", self.prefix, PATH=path, COUNT=count)[0]
-        signal.signal(signal.SIGHUP, hangup)
+        for number, handler in before.items():
+            signal.signal(number, handler)
         shutil.rmtree(self.path("signals"))
         return status
 
@@ -909,7 +910,7 @@ class Configure(Room):
             self.is_refused(self.call(["./configure"], where=os.path.join(self.top, "r"), user=NOBODY), "can't be written")
 
 
-# A stand-in for rt with its words for a library: `low`, and `high` above it. `rt ci` builds both.
+# A stand-in for rt with its words for a library: `low`, and `high` above it. `rt ci` builds both, but puts back those that were there.
 KEEPER = """#!/usr/bin/env python3
 import os, sys
 class Crate:
@@ -927,8 +928,9 @@ class rtlib:
     crates_below = staticmethod(lambda top: [LOW, Crate("high", LOW)])
 if __name__ == "__main__":
     for crate in rtlib.crates_below("."):
-        os.makedirs(crate.rlib, exist_ok=True)
-        with open(f"{crate.rlib}/format", "w") as file: file.write(crate.name)
+        if not os.path.exists(crate.rlib):
+            os.makedirs(crate.rlib)
+            with open(f"{crate.rlib}/format", "w") as file: file.write(crate.name)
     if "EDIT" in os.environ:
         with open("crates/low/src/lib.rt", "w") as file: file.write("edited")
     sys.exit(int(os.environ.get("RT_CI", "0")))
@@ -950,13 +952,21 @@ class Gate(Room):
             self.write(name, "#!/bin/sh\necho checked\n", 0o755)
         self.commit()
 
+    def out(self, name, *names):
+        return os.path.join(self.top, "crates", name, "out", *names)
+
     def stamps(self):
         """Returns the libraries that have stamps, and removes these."""
-        paths = {name: os.path.join(self.top, "crates", name, "out", "rlib", "stamp") for name in ("low", "high")}
-        found = [name for name, path in paths.items() if os.path.exists(path)]
+        found = [name for name in ("low", "high") if os.path.exists(self.out(name, "rlib", "stamp"))]
         for name in found:
-            os.remove(paths[name])
+            os.remove(self.out(name, "rlib", "stamp"))
         return found
+
+    def run_gate(self, without=("low", "high"), **how):
+        """Runs the gate where some crates have no library yet, and returns what it prints."""
+        for name in without:
+            shutil.rmtree(self.out(name), ignore_errors=True)
+        return self.run_script(".ci/run", **how)[1]
 
     def test_counts(self):
         """Whether checks that pass, are skipped and fail are counted, each as what it is, and only a failed one fails the gate."""
@@ -983,15 +993,28 @@ class Gate(Room):
 
     def test_kept(self):
         """Whether all proved libraries get stamps, and none if a source is edited before or during the proofs."""
-        self.assertIn("2 libraries of rt ci are ready", self.run_script(".ci/run")[1])
+        self.assertIn("2 libraries of rt ci are ready", self.run_gate())
         self.assertEqual(self.stamps(), ["low", "high"])
-        self.assertIn("no note of what was proved", self.run_script(".ci/run", EDIT="yes")[1])
+        self.assertIn("no note of what was proved", self.run_gate(EDIT="yes"))
         self.assertEqual(self.stamps(), [])
-        self.assertIn("no note of what was proved", self.run_script(".ci/run")[1])
+        self.assertIn("no note of what was proved", self.run_gate())
         self.assertEqual(self.stamps(), [])
         self.commit()
-        self.assertIn("no note of what was proved", self.run_script(".ci/run", GIT_TEST_ASSUME_DIFFERENT_OWNER="1")[1])
+        self.assertIn("no note of what was proved", self.run_gate(GIT_TEST_ASSUME_DIFFERENT_OWNER="1"))
         self.assertEqual(self.stamps(), [])
+
+    def test_put_back(self):
+        """Whether a library that was there before `rt ci` gets no stamp, also after an `rt ci` that was killed, nor one above it."""
+        self.assertIn("2 libraries", self.run_gate())
+        for without, words, found in (([], "0 libraries", []), (["low"], "1 libraries", ["low"]), (["high"], "0 libraries", [])):
+            self.stamps()
+            self.write("crates/low/src/lib.rt", f"{without}\n")
+            self.commit()
+            self.assertIn(words, self.run_gate(without))
+            self.assertEqual(self.stamps(), found)
+        os.makedirs(os.path.join(self.top, ".git", "rt-aside", "high", "rlib"))
+        self.assertIn("1 libraries", self.run_gate())
+        self.assertEqual(self.stamps(), ["low"])
 
     def test_kept_by_another(self):
         """Whether a run by hand, other sources and another library get no stamp."""
@@ -1002,6 +1025,8 @@ class Gate(Room):
         by_hand = 'sed "s/^run .*/run $$/" .ci/out/proved >.ci/out/new && mv .ci/out/new .ci/out/proved; {}; bench/kept.py; exit $?'
         for change, words, found in (
             (":", "2 libraries", ["low", "high"]),
+            ("echo another >crates/high/out/rlib/stamp", "1 libraries", ["low", "high"]),
+            ("echo another >crates/low/out/rlib/stamp", "0 libraries", ["low"]),
             ("echo garbage >crates/high/out/rlib/high.rlib/format", "1 libraries", ["low"]),
             ("echo garbage >crates/low/out/rlib/low.rlib/format", "0 libraries", []),
             ("echo edited >crates/low/src/lib.rt", "not those that were proved", []),

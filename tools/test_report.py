@@ -1,4 +1,4 @@
-"""Tests of report.py and of what it stands on: reports.py, refusals.py, findings.py. `tools/run_tests.sh` runs them.
+"""Tests of report.py and of what it uses: reports.py, refusals.py, findings.py. `tools/run_tests.sh` runs them.
 
     python3 test_report.py --pages N [--seed S]
 
@@ -233,6 +233,8 @@ class Pages(Form):
                 report.page(CASE.replace(old, new), answering(canon=(0, CANON)))
         with self.assertRaises(reports.NotAReport):
             report.page(CASE, lambda words, case: (0, START) if (words[0], case) == ("canon", CANON) else answering()(words, case))
+        with self.assertRaisesRegex(reports.NotAReport, "^the program takes a case that check_evidence.py refuses: malformed: case: weight sum"):
+            report.page(CASE.replace("weights 1/2", "weights 1"), answering(canon=(0, CANON)))
         sheet = "hypothesis,weight,p,H1,H2\nH1,1/2,0.025,0,0\nH2,0.5,0.026,0,0\n"
         whole = '{"alpha":"0.05","hypotheses":["H1","H2"],"p":["1/40","0.026"],"components":[{"weights":["1/2","1/2"],"edges":[]}]}'
         for form, alpha, given in [("csv", "0.05", sheet), ("json", None, whole)]:
@@ -550,6 +552,22 @@ class Stages(unittest.TestCase):
         with self.assertRaises(reports.NotAReport):
             report.page(given.replace("OS 4/5 0.005", "OS 4/5 0.004"), staged)
 
+    def test_names_that_look_like_numbers(self):
+        """Whether an arrival of the hypothesis 1.0 is not taken for one of the hypothesis 1, and 02 stages are 2."""
+        held = findings.Findings.__new__(findings.Findings)
+        held.given = "alpha 0.05\nhypotheses 1 1.0\nweights 1/2 1/2\nstages 02\nspend 1 1/2 1/2\nspend 1.0 1 0\narrive 1 1 0.01\n"
+        before, _ = findings.parted(held.given)
+        held.case, held.is_staged = check_evidence.read_case(before), True
+        stages = "stages 2\nspend 1 1/2 1/2\nspend 1.0 1 0\narrive {} 1 1/100\n"
+        held.staging = [line.split() for line in stages.format("1").splitlines()]
+        held.compare_with_given("text", None)
+        held.staging = [line.split() for line in stages.format("1.0").splitlines()]
+        with self.assertRaisesRegex(reports.NotAReport, "^the text of canon is that of another case$"):
+            held.compare_with_given("text", None)
+        held.given = held.given.replace("0.01", "x")
+        with self.assertRaisesRegex(reports.NotAReport, "refuses: the line arrive: number$"):
+            held.compare_with_given("text", None)
+
     def test_levels(self):
         """Whether the level of a stage is that of the case, by fractions and by a table: FORMATS has both for the trial."""
         held = findings.Findings.__new__(findings.Findings)
@@ -735,6 +753,18 @@ class Program(Form):
                 with self.subTest(name):
                     self.assertEqual((done.returncode, done.stderr), (5 if name == "too-wide.txt" else 0, ""))
                     self.check_form(done.stdout)
+                    self.assertEqual("No p-value has arrived." in done.stdout, name == "study.txt")
+
+    def test_many_hypotheses(self):
+        """Whether a graph of more than 16 hypotheses is drawn once, and one of more than 1,000 edges not at all."""
+        for size, pictures, words in [(17, 1, "Before the first rejection, with the step of each later one"), (33, 0, "A graph of 1056 edges is not drawn.")]:
+            names = [f"H{i}" for i in range(size)]
+            lines = ["alpha 0.05", "hypotheses " + " ".join(names), "p 0.001" + " 0.9" * (size - 1), "weights" + f" 1/{size}" * size]
+            case = "\n".join([*lines, *(f"edge {a} {b} 1/{size - 1}" for a in names for b in names if a != b), ""])
+            page = report.page(case, ask)
+            self.check_form(page)
+            self.assertIn(words, page)
+            self.assertEqual(page.count("<figure>"), pictures)
 
 
 def main():

@@ -2,6 +2,7 @@
 import contextlib
 import random
 import unittest
+from fractions import Fraction
 from unittest import mock
 
 import welungad
@@ -80,6 +81,15 @@ class Whole(unittest.TestCase):
             for other in [*(it for it in texts.values() if it != text), "", text[:-1], "x" + text]:
                 with self.subTest((command, other)), self.assertRaises(welungad.BadAnswer):
                     _reports.take_answer(command, 0, other.encode())
+
+    def test_canonical_texts(self):
+        text = "alpha 1/40\nhypotheses A B\np 1/100 9/10\nweights 1/2 1/2\nedge A B 1-2/3*\\epsilon^2\n"
+        found = _reports.read_canonical(text)
+        self.assertEqual((found.p, found.shares), ({"A": Fraction(1, 100), "B": Fraction(9, 10)}, [1]))
+        self.assertEqual(found.edges, [{("A", "B"): welungad.Quotient((Fraction(1), Fraction(0), Fraction(-2, 3)), (Fraction(1),))}])
+        for old, new in [("1-2/3", "1-x"), ("edge", "edges"), ("weights 1/2", "weights 1/0"), ("edge A B", "edge A"), ("alpha 1/40", "alpha 1/40 1")]:
+            with self.subTest(new), self.assertRaisesRegex(welungad.BadAnswer, "^what answered is not an answer to canon: "):
+                _reports.read_canonical(text.replace(old, new))
 
     def test_hypotheses_in_another_order(self):
         text = DECISION.replace("kept B p 9/10 weight 1\nrejected A\n", "step 2 B p 1/50 weight 1\nrejected B A\n")

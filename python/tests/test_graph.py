@@ -62,7 +62,7 @@ class Given(unittest.TestCase):
         self.assertEqual(holm(list(DOSES)).program_names, {"dose ü": "dose", "low dose": "low_dose", "H2": "H2"})
         graph = welungad.Graph({"B": 0.25, "A": 0.75}, {"A": {"B": 1}}, names=["A", "B"])
         self.assertEqual((graph.names, graph.components[0].weights), (("A", "B"), {"A": Fraction(3, 4), "B": Fraction(1, 4)}))
-        self.assertEqual(len(graph), 2)
+        self.assertEqual((len(graph), repr(graph)), (2, "<Graph of 'A', 'B'>"))
 
     def test_epsilon(self):
         (component,) = welungad.Graph([1, 0, 0], [[0, "1-\\epsilon", "\\epsilon"], [0, 0, "1/2*\\epsilon^2"], [0, 0, 0]]).components
@@ -116,6 +116,7 @@ class Given(unittest.TestCase):
             (lambda: graph.test([0.1, -1e-9]), "^the p-value of 'B' is -1e-09"), (lambda: graph.test([0.1, 0.1], priority="none"), "^priority is one of"),
             (lambda: graph.test_many([[0.1, 0.2], [0.1]]), "^row 2 has 1 values"),
             (lambda: graph.draw(holm().test([1, 1, 1])), "^the decision is of other hypotheses"),
+            (lambda: graph.draw(pair(THIRD).test([1, 1])), "^decision is not a decision of this graph$"),
             (lambda: welungad.Graph.entangled([graph, holm()], [0.5, 0.5]), "^graph 2 has other hypotheses"),
             (lambda: welungad.Graph.entangled([graph, graph], [0.5]), "^shares has 1 values"),
             (lambda: welungad.Graph.entangled([graph, welungad.Graph({"B": 1, "A": 0}, {})], [0.5, 0.5]), "^graph 2 has .*, or another order of them$"),
@@ -147,6 +148,9 @@ class Given(unittest.TestCase):
         rows = pandas.DataFrame({"B": [0.9, 0.001], "A": [0.001, 0.9]})
         self.assertEqual(graph.test_many(rows).rejected, ((False, False), (False, True)))
         self.assertEqual(graph.test_many(pandas.DataFrame([[0.001, 0.001]], index=["trial"])).rejected, ((True, True),))
+        self.assertEqual(welungad.Graph([1, 0], {}, names=pandas.Series(["A", "B"])).names, ("A", "B"))
+        with self.assertRaisesRegex(TypeError, "^names is a list of labels in the order of the hypotheses, and has no labels itself$"):
+            welungad.Graph([1, 0], {}, names=pandas.Series({"H2": "A", "H1": "B"}))
         with self.assertRaisesRegex(ValueError, "^rows: its rows have the labels of hypotheses"):
             graph.test_many(pandas.DataFrame([[0.9, 0.001], [0.001, 0.9]], index=["A", "B"]))
         for given, message in [(pandas.DataFrame({"A": [0, 1], "B": [1, 0]}), "the columns have labels, and the others have none"),
@@ -171,6 +175,7 @@ class Answers(unittest.TestCase):
                          {"dose ü": Fraction(1, 50), "low dose": Fraction(3, 200), "H2": Fraction(1, 50)})
         self.assertIn("hypotheses dose low_dose H2\np 1/100 1/200 1/50\n", decision.case)
         self.assertEqual((0, decision.report.encode()), welungad.run(["test"], decision.case))
+        self.assertEqual((decision.names, welungad.test(decision.case).names), (DOSES, ("dose", "low_dose", "H2")))
         self.assertEqual(pickle.loads(pickle.dumps(decision)), decision)
 
     def test_an_adjusted_p_value_that_is_not_reached(self):
@@ -220,6 +225,21 @@ class Answers(unittest.TestCase):
             self.assertEqual((checked.listed, checked.kept), (("a b", "B"), ("C",)))
         self.assertEqual(graph.check([0.9, 0.9, 0.9], evidence, alpha=0.05).reason, "no: step 1: above level")
         self.assertFalse(graph.check([0.9, 0.9, 0.9], evidence))
+
+    def test_evidence_of_a_graph_with_other_labels(self):
+        # the program's names are H1 and H2 in both graphs
+        p = [0.001, 0.9]
+        first, second = (welungad.Graph([0.5, 0.5], {}, names) for names in [("α", "β"), ("β", "α")])
+        evidence = first.evidence(p)
+        self.assertEqual(first.check(p, evidence).listed, ("α",))
+        with self.assertRaisesRegex(ValueError, "^proof is evidence about other hypotheses: 'α', 'β'$"):
+            second.check(p, evidence)
+        for document in [evidence.text, welungad.evidence(evidence.case)]:
+            self.assertEqual(second.check(p, document).listed, ("β",))
+        with self.assertRaisesRegex(ValueError, "^proof is evidence about other hypotheses: 'H1', 'H2'$"):
+            pair().check(p, welungad.evidence(evidence.case))
+        self.assertEqual(welungad.Graph({"B": 0.5, "A": 0.5}, {}).check({"A": 0.001, "B": 0.9}, welungad.Graph({"A": 0.5, "B": 0.5}, {}).evidence(p)).listed,
+                         ("A",))
 
     def test_entangled(self):
         first, second = welungad.Graph([1, 0], {}), welungad.Graph([0, 1], {"H2": {"H1": 1}})
@@ -301,6 +321,9 @@ class Answers(unittest.TestCase):
             with open(os.path.join(room, "graph.svg"), encoding="utf-8") as file:
                 self.assertEqual(file.read(), picture.svg)
 
+    def test_draw_a_decision_on_a_text(self):
+        self.assertIn("p 1/100", holm().draw(welungad.test(places.example("holm.txt"))).svg)
+
     def test_draw_labels_with_any_character(self):
         labels = ["a\x01b", "\udcff", "\0", "\x7f \x85", "\ufffe", "\U0001f4a7", "line\nfeed", "<&>\"'"]
         picture = welungad.Graph([Fraction(1, 8)] * 8, {(labels[0], labels[1]): 1}, labels).draw()
@@ -324,6 +347,17 @@ class Answers(unittest.TestCase):
         paths = {it[0].text: re.findall("[-0-9.]+,[-0-9.]+", it.get("d")) for it in drawn.iter("{http://www.w3.org/2000/svg}path") if len(it)}
         ends = {title: (nearest(*points[0].split(",")), nearest(*points[-1].split(","))) for title, points in paths.items()}
         self.assertEqual(ends, {"A → B: 1/4": ("A", "B"), "C → A: 3/4": ("C", "A")})
+
+    def test_draw_legends(self):
+        """Whether the components are named with their shares, and the texts of many edges are left to the pointer."""
+        entangled = welungad.Graph.entangled([welungad.Graph([1, 0], {}), welungad.Graph([0, 1], {"H2": {"H1": 1}})], ["1/4", 0.75])
+        full = welungad.Graph([Fraction(1, 9)] * 9, [[Fraction(1, 8) if i != j else 0 for j in range(9)] for i in range(9)])
+        for graph, wanted, edges in [(entangled, {"component 1: share 1/4", "component 2: share 3/4"}, 1), (pair(), set(), 2),
+                                     (full, {"72 edges: the text of each is shown where the pointer is on it"}, 0)]:
+            drawn = xml.etree.ElementTree.fromstring(graph.draw().svg)
+            texts = [it.text for it in drawn.iter("{http://www.w3.org/2000/svg}text")]
+            self.assertEqual({it for it in texts if ": " in it}, wanted)
+            self.assertEqual(len([it for it in texts if it in ("1", "1/8")]) - (graph is entangled) * 2, edges)
 
     def test_draw_each_size(self):
         for size in [1, 2, 3, 8, 16, 40]:
@@ -386,10 +420,12 @@ class Refusals(unittest.TestCase):
                 self.assertTrue(str(caught.exception).startswith(f"{where}: "))
                 self.assertTrue(str(caught.exception).endswith(f" ({line})"))
 
-    def test_row_sum(self):
-        with self.assertRaises(welungad.Refused) as caught:
-            welungad.Graph([1, 0, 0], [[0, 0, 0], [0.7, 0, 0.4], [0, 0, 0]])
-        self.assertEqual(caught.exception.where, "the edges from 'H2', which sum to 1.1")
+    def test_sums(self):
+        for weights, row, where in [([1, 0, 0], [0.7, 0, 0.4], "the edges from 'H2', which sum to 1.1"),
+                                    ([1, 0, 0], [1, 0, "\\epsilon"], "the edges from 'H2'"), (["2/3", "2/3", 0], [0, 0, 0], "weights, which sum to 4/3")]:
+            with self.subTest(where), self.assertRaises(welungad.Refused) as caught:
+                welungad.Graph(weights, [[0, 0, 0], row, [0, 0, 0]])
+            self.assertEqual(caught.exception.where, where)
 
     def test_pickle(self):
         with self.assertRaises(welungad.Refused) as caught:

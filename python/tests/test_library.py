@@ -211,10 +211,21 @@ class Programs(Rooms):
         self.assertEqual(say(folder, self.PLACES).split("\n")[0], f"{self.room}/prefix/bin/welungad")
         self.assertEqual(say(folder, self.PLACES, WELUNGAD="/a/b"), "/a/b\n")
 
+    def test_the_search_path(self):
+        folder, program = self.put_package("x"), self.put("bin/welungad", b"#!/bin/sh\n")
+        statement = "from welungad import _program; print(_program.program_path())"
+        os.chmod(program, 0o755)
+        self.assertEqual(say(folder, statement, PATH=os.path.dirname(program)), f"{program}\n")
+        os.chmod(program, 0o644)
+        said = say(folder, statement, PATH=os.path.dirname(program))
+        self.assertIn(f"OSError: the program welungad is not found. The places tried: {sys.prefix}/bin/welungad, and those of the search path", said)
+
     def test_the_one_beside_which_it_was_built(self):
         folder = self.put_package("site-packages")
         self.put("site-packages/welungad/stamp", b"sha256 libwelungad.so 00\nprogram /a folder/bin/welungad\n")
         self.assertEqual(say(folder, self.PLACES).split("\n"), ["/a folder/bin/welungad", f"{sys.prefix}/bin/welungad", ""])
+        self.put("site-packages/welungad/stamp", b"sha256 libwelungad.so 00\nprogram /\xff/welungad\n")
+        self.assertIn("b'/\\xff/welungad'", say(folder, "import os; from welungad import _program; print(*map(os.fsencode, _program.program_places()))"))
 
 
 class Stamps(Rooms):

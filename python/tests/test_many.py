@@ -8,7 +8,7 @@ from unittest import mock
 
 import test_library
 import welungad
-from welungad import _library, _trials
+from welungad import _graph, _library, _trials
 
 THIRD = Fraction(1, 3)
 
@@ -71,6 +71,13 @@ class Blocks(unittest.TestCase):
         rows = [[1.2345678901234567e-14, 0.9]]
         self.assertEqual(graph.test_many(rows).rejected, ((True, False),))
         self.assertEqual(row_by_row(graph, rows).statuses, (welungad.TOO_WIDE,))
+
+    def test_out_of_memory_in_a_row(self):
+        graph = holm()
+        with mock.patch.object(_graph, "run", lambda words, *given: (8, b"no memory\n") if words[0] == "test" else _library.run(words, *given)):
+            with self.assertRaises(welungad.Refused) as caught:
+                graph.test_many([["0.1", "0.1", "0.1"]])
+        self.assertEqual((caught.exception.status, caught.exception.line), (welungad.NO_MEMORY, "no memory"))
 
     def test_what_is_no_answer(self):
         for status, marks, statuses in [(11, b"\0" * 3, b"\0"), (3, b"\0" * 3, b"\0"), (0, b"\2\0\0", b"\0"), (0, b"\0" * 3, b"\3"), (0, b"\0" * 3, b"\5")]:

@@ -15,6 +15,10 @@ try:
     import numpy
 except ImportError:
     numpy = None
+try:
+    import pandas
+except ImportError:
+    pandas = None
 
 TABLE = os.path.join(os.path.dirname(os.path.abspath(__file__)), "readings.txt")
 
@@ -198,6 +202,53 @@ class Kinds(unittest.TestCase):
         with self.assertRaisesRegex(TypeError, "^numbers is of type array, whose numbers are not doubles"):
             welungad.as_exact(array.array("f", [0.1, 1 / 3]))
 
+    def test_arrays_that_do_not_say_what_they_hold(self):
+        class Column:
+            """As an array of pyarrow, whose doubles may be short floats."""
+
+            ndim = 1
+
+            def __init__(self, values):
+                self.values = values
+
+            def tolist(self):
+                return self.values
+
+        class Itself:
+            """A number of a class that Python has no other one for."""
+
+            ndim = 0
+
+            def tolist(self):
+                return self
+
+        with self.assertRaisesRegex(TypeError, "^number is a number, and not of type Itself$"):
+            welungad.as_exact(Itself())
+        self.assertEqual(welungad.as_exact(Column([0, "1/3"])), [0, Fraction(1, 3)])
+        with self.assertRaisesRegex(TypeError, "^numbers is of type Column, whose numbers may not be doubles: give doubles"):
+            welungad.as_exact(Column([0.10000000149011612]))
+
+    @unittest.skipUnless(pandas, "pandas is missing")
+    def test_short_floats_in_pandas(self):
+        short = pandas.Series([0.1, 0.2], dtype="float32")
+        categories = short.astype("category")
+        # before 2.0, pandas turns categories into doubles
+        of_doubles = categories.dtype.categories.dtype == "float64"
+        for given in [short, short.astype(pandas.SparseDtype("float32")), short.astype("Float32"), *([] if of_doubles else [categories])]:
+            with self.subTest(given.dtype), self.assertRaisesRegex(TypeError, "^numbers is of type .*loat32.*, whose numbers are not doubles"):
+                welungad.as_exact(given)
+        whole = pandas.Series([0.1, 0.2])
+        for given in [whole, whole.astype("category"), whole.astype(pandas.SparseDtype("float64")), whole.astype("Float64"), whole.astype(object)]:
+            with self.subTest(given.dtype):
+                self.assertEqual(welungad.as_exact(given), [Fraction(1, 10), Fraction(1, 5)])
+
+    @unittest.skipUnless(pandas, "pandas is missing")
+    def test_a_label_that_occurs_twice(self):
+        self.assertEqual(welungad.as_exact(pandas.Series([0.1, 0.2], index=["A", "B"])), {"A": Fraction(1, 10), "B": Fraction(1, 5)})
+        for label in ["A", 7, None]:
+            with self.subTest(label), self.assertRaisesRegex(ValueError, f"^numbers: the label {label!r} occurs 2 times$"):
+                welungad.as_exact(pandas.Series([0.1, 0.2], index=[label, label]))
+
     def test_no_numbers(self):
         for given in [True, False, None, b"0.5", 0.5j, object(), {0.5}, [None], iter([0.5])]:
             with self.subTest(given), self.assertRaises(TypeError):
@@ -230,7 +281,7 @@ class Kinds(unittest.TestCase):
                 _numbers.expression(given, "it")
 
     def test_printed_doubles(self):
-        for given in ["0.3333333333333333", Decimal("0.14285714285714285"), "0.00010001000100010001"]:
+        for given in ["0.3333333333333333", Decimal("0.14285714285714285"), "0.00010001000100010001", "0.33333333333333331", "3.333333333333333148e-01"]:
             with self.subTest(given), self.assertWarnsRegex(welungad.PrintedDoubleWarning, "^number is the text '.*', which is taken as it is"):
                 self.assertEqual(welungad.as_exact(given), Fraction(given))
         with warnings.catch_warnings():
@@ -264,7 +315,10 @@ class Kinds(unittest.TestCase):
         class Exact(Fraction):
             __str__ = __repr__ = lambda self: "3/4"
 
-        for given, text in [(Whole(1), "1"), (Double(0.5), "1/2"), (Text("0.5"), "0.5"), (Exact(1, 2), "1/2")]:
+        class Places(Decimal):
+            __str__ = __repr__ = lambda self: "0.75"
+
+        for given, text in [(Whole(1), "1"), (Double(0.5), "1/2"), (Text("0.5"), "0.5"), (Exact(1, 2), "1/2"), (Places("0.5"), "0.5")]:
             self.assertEqual(f"{_numbers.numeral(given, 'it')}", text)
         self.assertEqual(f"{_numbers.whole(Whole(2), 'it')}", "2")
 

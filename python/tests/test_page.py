@@ -103,6 +103,12 @@ class Pages(unittest.TestCase):
                 graph.report(other.test([0.01, 0.02]))
         with self.assertRaisesRegex(ValueError, "^decided is not a decision of this graph$"):
             graph.report(welungad.test(places.example("holm.txt")))
+        # the program's names are H1 and H2 in both graphs
+        one, other = pair(("α", "β")), pair(("β", "α"))
+        for decided in [one.test([0.01, 0.9]), one.stages([[0.025], [0.025]], [("α", 1, 0.01)])]:
+            self.assertIn("<strong>α <small>(H1)</small></strong>", one.report(decided).html)
+            with self.assertRaisesRegex(ValueError, "^decided is not a decision of this graph$"):
+                other.report(decided)
         decision = graph.test([0.01, 0.02])
         for wrong in [dict(alpha="0.025"), dict(priority="first")]:
             with self.assertRaisesRegex(TypeError, "^alpha and priority are given with p-values"):

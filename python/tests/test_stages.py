@@ -1,4 +1,5 @@
 """Tests of staged trials: levels and looks of every class, and what is refused. Values by hand."""
+import array
 import unittest
 from fractions import Fraction
 
@@ -40,8 +41,14 @@ class Stages(unittest.TestCase):
     def test_the_weight_at_which_levels_count(self):
         half = trial().stages({"PFS": [0.01, 0.015], "overall survival": [0.005, 0.02]}, LOOKS, alpha=0.05, at=HALF)
         self.assertEqual(half.case, trial().stages(LEVELS, LOOKS, alpha=0.05).case)
-        own = trial().stages({"PFS": [0.01, 0.015], "overall survival": [0.01, 0.04]}, LOOKS, alpha=0.05, at={"overall survival": 1, "PFS": 0.5})
-        self.assertEqual(own.case, half.case)
+        own = {"PFS": [0.01, 0.015], "overall survival": [0.01, 0.04]}
+        for at in [{"overall survival": 1, "PFS": 0.5}, [0.5, 1], ("1/2", 1), array.array("d", [0.5, 1])]:
+            self.assertEqual(trial().stages(own, LOOKS, alpha=0.05, at=at).case, half.case)
+        for at, error, message in [([0.5], ValueError, "^at has 1 values, and there are 2 hypotheses$"), ({"PFS": 1}, ValueError, "^at: the hypothesis "),
+                                   (0, ValueError, "^at of 'PFS' is 0, and not above 0 and at most 1$"), (None, TypeError, "^at of 'PFS' is a number, and not None$"),
+                                   ([1, "5/4"], ValueError, "^at of 'overall survival' is 5/4, and not above 0 and at most 1$"), ("-1/2", ValueError, "^at of 'PFS' is -1/2,")]:
+            with self.subTest(at), self.assertRaisesRegex(error, message):
+                trial().stages(own, LOOKS, alpha=0.05, at=at)
 
     def test_tables(self):
         found = trial().stages({"PFS": {0.5: [0.01, 0.015], 1: [0.02, 0.03]}, "overall survival": [0.01, 0.04]}, LOOKS, alpha=0.05)
@@ -65,6 +72,7 @@ class Stages(unittest.TestCase):
             ({"PFS": [0.02, 0.03]}, (), "^levels: the hypothesis 'overall survival' is missing"),
             ([[0.02, 0.03]], (), "^levels has 1 values"), ([[0.02, 0.03], [0.05]], (), "^levels: 'PFS' and 'overall survival' have different"),
             (LEVELS, [("OS", 1, 0.1)], "^look 1: 'OS' is not the name of a hypothesis"),
+            (LEVELS, [(["PFS"], 1, 0.1)], "^look 1: \\['PFS'\\] is not the name of a hypothesis"),
             (LEVELS, [LOOKS[0], ("PFS", 2, float("nan"))], "^the p-value of look 2 is nan"), ([[0.02, -0.1], [0.1, 0.1]], (), "^level 2 of 'PFS' is -0.1"),
         ]:
             with self.subTest(message), self.assertRaisesRegex(ValueError, message):
@@ -86,6 +94,10 @@ class Stages(unittest.TestCase):
             with self.subTest(line), self.assertRaises(welungad.Refused) as caught:
                 trial().stages(levels, looks, alpha=0.05)
             self.assertEqual((caught.exception.where, caught.exception.line), (where, line))
+        for alpha in [0, "-0.05", 2]:
+            with self.subTest(alpha), self.assertRaises(welungad.Refused) as caught:
+                trial().stages(LEVELS, LOOKS, alpha=alpha)
+            self.assertEqual((caught.exception.where, caught.exception.line), ("alpha", "malformed: case: alpha"))
 
     @unittest.skipUnless(numpy, "numpy is missing")
     def test_numpy(self):
@@ -99,12 +111,14 @@ class Stages(unittest.TestCase):
         by_column = pandas.DataFrame(LEVELS)
         for levels in [by_column, by_column.transpose(), by_column[["PFS", "overall survival"]]]:
             self.assertEqual(graph.stages(levels, looks, alpha=0.05).case, wanted)
-        for stages in [[1, 2], ["interim", "final"], ["week 12", "week 104"], ["IA 1", "final"]]:
+        for stages in [[1, 2], ["interim", "final"], ["week 12", "week 104"], ["IA 1", "final"], ["stage 1", "Stage2"], ["stage", "stage 2"]]:
             self.assertEqual(graph.stages(by_column.set_axis(stages), looks, alpha=0.05).case, wanted)
-        for stages in [[2, 1], ["stage 2", "stage 1"], ["2", "1"], ["week 104", "week 12"]]:
+        for stages in [[2, 1], ["stage 2", "stage 1"], ["2", "1"], ["week 104", "week 12"], ["stage 1", "stage 3"], ["stage 2", "final"]]:
             for levels in [by_column.set_axis(stages), by_column.set_axis(stages).transpose()]:
                 with self.subTest(stages), self.assertRaisesRegex(ValueError, "^levels: the stages are .*, and levels are given from the first"):
                     graph.stages(levels, looks, alpha=0.05)
+        with self.assertRaisesRegex(ValueError, "^levels: the label 'interim' occurs 2 times$"):
+            graph.stages(by_column.set_axis(["interim", "interim"]), looks, alpha=0.05)
         both = by_column.rename(index={0: "PFS", 1: "overall survival"})
         with self.assertRaisesRegex(ValueError, "^levels: both the rows and the columns"):
             graph.stages(both, (), alpha=0.05)
@@ -116,6 +130,8 @@ class Stages(unittest.TestCase):
             graph.stages(LEVELS, looks.assign(stage=pandas.Categorical(["1", "1", "2", "2"])), alpha=0.05)
         with self.assertRaisesRegex(TypeError, "^the stage of look 1 is a whole number, and not 1.9"):
             graph.stages(LEVELS, looks.assign(stage=[1.9, 1, 2, 2]), alpha=0.05)
+        with self.assertRaisesRegex(TypeError, "^the levels of 'PFS' are a list, one for each stage, and not of type Series$"):
+            graph.stages({**LEVELS, "PFS": pandas.Series([0.02, 0.03], index=["stage 1", "stage 2"])}, looks, alpha=0.05)
 
 
 if __name__ == "__main__":

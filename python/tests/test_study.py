@@ -1,4 +1,5 @@
 """Tests of studies: the file of looks, the case beside it, and what passes for the program."""
+import enum
 import errno
 import os
 import stat
@@ -47,7 +48,7 @@ class Studies(Rooms):
     def test_looks(self):
         study = welungad.Study(CASE, self.store)
         self.assertFalse(os.path.exists(self.store))
-        self.assertEqual(study.names, ("H1", "H2"))
+        self.assertEqual((study.names, repr(study)), (("H1", "H2"), f"<Study of H1, H2 in {self.store!r}>"))
         self.assertEqual(study.look("H1", 1, "0.02"), welungad.Look("H1", 1, Fraction(1, 50), ()))
         again = welungad.Study(CASE.encode(), self.store)
         replies = again.looks([("H2", 1, 0.03), ("H1", 1, 0.01), ("H1", 2, 0.01), ("H1", 3, 0.01), ("H2", 2, 0.02)])
@@ -57,6 +58,20 @@ class Studies(Rooms):
         self.assertEqual(list(map(bool, replies)), [True, False, True, False, True])
         self.assertEqual(replies[4].rejections, (welungad.Settled("H2", 2, Fraction(1)),))
         self.assertEqual(study.show(), welungad.Shown(4, ("H1", "H2")))
+
+    def test_names_of_other_classes_of_text(self):
+        class Endpoint(str, enum.Enum):
+            OS = "H1"
+
+        class Shown(str):
+            __str__ = __repr__ = lambda self: "H2"
+            __format__ = lambda self, spec: "H2"
+
+        study = welungad.Study(CASE, self.store)
+        found = study.look(Endpoint.OS, 1, "0.02")
+        self.assertEqual((found, type(found.name)), (welungad.Look("H1", 1, Fraction(1, 50), ()), str))
+        self.assertEqual(study.look(Shown("H1"), 2, "0.03"), welungad.Look("H1", 2, Fraction(3, 100), ()))
+        self.assertEqual(repr(study.look(Shown("H1"), 2, "0.03")), "RefusedLook(name='H1', stage=2, reason='known')")
 
     def test_a_look_out_of_range(self):
         study = welungad.Study(CASE, self.store)

@@ -95,8 +95,8 @@ class Calls(unittest.TestCase):
         self.assertEqual(welungad.run(["tést"]), (2, b"usage: word 1\n"))
         self.assertEqual(welungad.run([b"t\xffst"]), (10, b""))
         self.assertEqual(welungad.run(["test", "\udcff"]), (10, b""))
-        with self.assertRaises(ValueError):
-            welungad.run(["te\0st"])
+        with self.assertRaisesRegex(ValueError, "^word 2 holds a byte 0$"):
+            welungad.run(["test", "--form\0"])
         with self.assertRaises(TypeError):
             welungad.run("test")
 

@@ -7,7 +7,7 @@
     decision.rejected                   # ('low dose', 'high dose')
     decision.adjusted["low dose"].p     # Fraction(1, 50)
 
-`Graph` is made of numbers of Python, and has a method for each command. `Study` keeps the looks of a staged trial in a file. The
+`Graph` is made of numbers of Python, and its methods decide with it. `Study` keeps the looks of a staged trial in a file. The
 functions named as the commands (`test`, `weights`, `bounds`, `simes`, `evidence`, `check`, `stages`, `canon`) take a case as a
 text, as `str` or `bytes`. `run` makes one call and returns its status and its text.
 
@@ -32,8 +32,9 @@ from ._study import Study
 __version__ = "0.2.0"
 
 __all__ = [
-    "Adjusted", "Answer", "Arrival", "BadAnswer", "BesideWarning", "Bounds", "Checked", "Component", "DONE", "Decision", "Evidence", "Flow", "Given",
-    "Graph", "INTERFACE", "LIMIT", "Level", "Listed", "Look", "MALFORMED", "NO", "NO_MEMORY", "Number", "Page", "Picture", "PrintedDoubleWarning", "Quotient", "Refused",
-    "RefusedLook", "Settled", "Shown", "Simes", "Stages", "Step", "Study", "TOO_WIDE", "Tested", "Text", "Trials", "UNREADABLE_WORDS",
-    "USAGE", "Weights", "as_exact", "bounds", "canon", "check", "evidence", "explain", "run", "simes", "stages", "test", "weights",
+    "Adjusted", "Answer", "Arrival", "BadAnswer", "BesideWarning", "Bounds", "Checked", "Component", "DONE", "Decision", "Evidence",
+    "Flow", "Given", "Graph", "INTERFACE", "LIMIT", "Level", "Listed", "Look", "MALFORMED", "NO", "NO_MEMORY", "Number", "Page", "Picture",
+    "PrintedDoubleWarning", "Quotient", "Refused", "RefusedLook", "Settled", "Shown", "Simes", "Stages", "Step", "Study", "TOO_WIDE",
+    "Tested", "Text", "Trials", "UNREADABLE_WORDS", "USAGE", "Weights", "as_exact", "bounds", "canon", "check", "evidence", "explain",
+    "run", "simes", "stages", "test", "weights",
 ]

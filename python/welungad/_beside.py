@@ -1,13 +1,13 @@
 """Doubles beside small fractions: what sums such as 0.1 + 0.2 leave, a few units in the last place from the fraction that was meant.
 
-They are read as they are. Where that decides, it is said; and `as_exact` with a total reads a row as the fractions beside it.
+They are read as they are. A warning says so where that decides, and `as_exact` with a total reads a row as the fractions beside it.
 """
 import struct
 from fractions import Fraction
 from typing import Any, Dict, List, NamedTuple, Optional, Sequence, Union
 
-from ._hypotheses import Values, values_of
-from ._numbers import LARGEST_DENOMINATOR, Given, numeral, read_double, value_of
+from ._hypotheses import hold_distinct, is_many, values_of
+from ._numbers import LARGEST_DENOMINATOR, Given, known_value, numeral, read_double
 
 _MOST_UNITS = 4
 _COUNTS = ("no units", "one unit", "two units", "three units", "four units")
@@ -34,7 +34,7 @@ def _place(double: float) -> int:
 
 
 def beside_fraction(double: float, fraction: Fraction) -> Optional[Beside]:
-    """Returns that a double is at most four units in the last place from a small fraction, and not at it, if that is so."""
+    """Returns a small fraction with the units in the last place from it to a double, if these are one to four; else nothing."""
     if fraction.denominator > LARGEST_DENOMINATOR or not 0 <= fraction <= 1 or not 0 <= double <= 1:
         return None
     units = _place(double) - _place(fraction.numerator / fraction.denominator)
@@ -55,16 +55,7 @@ def meant(value: Fraction) -> Fraction:
 
 def exact_value(given: Any, place: str) -> Fraction:
     """Returns the exact value of one number."""
-    text = numeral(given, place)
-    value = value_of(text)
-    if value is None:
-        raise ValueError(f"{place} is {text}, which has no value within reach")
-    return value
-
-
-def _is_many(given: Any) -> bool:
-    has_places = getattr(given, "ndim", int(hasattr(given, "tolist"))) > 0
-    return isinstance(given, (list, tuple, dict)) or hasattr(given, "items") or has_places
+    return known_value(numeral(given, place), place)
 
 
 def as_exact(given: Any, total: Optional[Given] = None) -> Union[Fraction, List[Fraction], Dict[str, Fraction]]:
@@ -83,20 +74,21 @@ def as_exact(given: Any, total: Optional[Given] = None) -> Union[Fraction, List[
     >>> as_exact([0.1 + 0.2, 0.7], total=1)
     [Fraction(3, 10), Fraction(7, 10)]
 
-    `TypeError`: it is not a number; a bool is none. `ValueError`: it has no value, is a double that is not from 0 to 1, or the row
-    does not sum to the total.
+    `TypeError`: it is not a number; a bool is none. `ValueError`: it has no value, is a double that is not from 0 to 1, the row
+    does not sum to the total, or a label of it occurs twice.
     """
-    if not _is_many(given):
+    if not is_many(given):
         if total is not None:
             raise TypeError("a total is that of a row: give a list of numbers")
         return exact_value(given, "number")
     found = values_of(given, "numbers")
     values = [exact_value(value, f"number {at}") for at, value in enumerate(found.values, 1)]
-    return _labelled(found, values if total is None else _with_total(values, exact_value(total, "total")))
-
-
-def _labelled(found: Values, values: List[Fraction]) -> Union[List[Fraction], Dict[str, Fraction]]:
-    return values if found.labels is None else dict(zip(found.labels, values))
+    if total is not None:
+        values = _with_total(values, exact_value(total, "total"))
+    if found.labels is None:
+        return values
+    hold_distinct(found.labels, "numbers")
+    return dict(zip(found.labels, values))
 
 
 def _with_total(values: Sequence[Fraction], total: Fraction) -> List[Fraction]:

@@ -32,7 +32,8 @@ def _read(words: List[str], case: Text, form: str, read: Callable[[Report], Foun
     """Makes a call, and returns what `read` makes of its report."""
     given = bytes_of(case, "case")
     text = take_answer(words[0], *run(words, given))
-    return answered(read_whole(words[0], text, {name: name for name in names_in(given, form)}, read), words, text)
+    names = names_in(given, form)
+    return answered(read_whole(words[0], text, dict(zip(names, names)), read), words, text, names)
 
 
 def test(case: Text, form: str = "text", alpha: Optional[Level] = None, priority: Optional[str] = None) -> Decision:
@@ -65,7 +66,8 @@ def check(case: Text, proof: Union[Text, Evidence], form: str = "text", alpha: O
     given, document = bytes_of(case, "case"), bytes_of(proof.text if isinstance(proof, Evidence) else proof, "proof")
     words = _words(["check", "proof"], form, alpha)
     text = take_answer("check", *run(words, given, document))
-    return answered(check_answer(text, document, {name: name for name in names_in(given, form)}), words, text)
+    names = names_in(given, form)
+    return answered(check_answer(text, document, dict(zip(names, names))), words, text, names)
 
 
 def stages(case: Text, form: str = "text") -> Stages:

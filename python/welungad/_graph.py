@@ -8,7 +8,7 @@ from typing import Any, Callable, Dict, List, Mapping, NamedTuple, Optional, Seq
 from ._beside import BesideWarning, beside_fraction
 from ._hypotheses import (frame_labels, frame_rows, hold_labels, in_order, is_frame, names_for, order_of, rows_of, values_of)
 from ._library import Text, bytes_of, kind_of, run
-from ._numbers import Given, expression, numeral, value_of
+from ._numbers import Given, expression, known_value, numeral, value_of
 from ._page import page_of
 from ._picture import picture_of
 from ._places import place_of, sum_above, sum_text
@@ -110,9 +110,10 @@ def _labels(weights: Any, edges: Any, names: Any) -> Tuple[str, ...]:
     """Returns the labels: those that are given, else those of the weights, else those of a frame of edges, else H1, H2, .."""
     found = values_of(weights, "weights")
     if names is not None:
-        if isinstance(names, Mapping):
-            raise TypeError("names is a list of labels, and not a dict")
-        return hold_labels(values_of(names, "names").values, "names")
+        given = values_of(names, "names")
+        if given.labels is not None:
+            raise TypeError("names is a list of labels in the order of the hypotheses, and has no labels itself")
+        return hold_labels(given.values, "names")
     if found.labels is not None:
         return hold_labels(found.labels, "weights")
     rows = frame_labels(edges)[0] if is_frame(edges) else None
@@ -165,7 +166,7 @@ class Graph:
     a series of pandas with their labels in any order. A number is a Fraction, a Decimal, an int, a text such as "0.025" or "1/40",
     or a double from 0 to 1, which is read as `as_exact` says.
 
-    Every method makes one proved call, decides nothing itself, and returns exact numbers with the user's labels.
+    No method decides anything itself: each hands the graph to proved calls, and returns exact numbers with the user's labels.
 
     `TypeError`, `ValueError`: an argument has a wrong type, or cannot be matched with the hypotheses once and wholly; the message
     names the argument and the place. `Refused`: the proved call refuses the case. `BadAnswer`: what answered is not the library.
@@ -289,7 +290,7 @@ class Graph:
     def _answer(self, words: List[str], case: Case, read: Callable[[Report], Found]) -> Found:
         """Makes a call, and returns its result with the user's labels."""
         text = self._ask(words, case)
-        result = answered(read_whole(words[0], text, self._by_name, read), words, text, case.text)
+        result = answered(read_whole(words[0], text, self._by_name, read), words, text, self._labels, case.text)
         if isinstance(result, (Decision, Stages)) and result.alpha != case.alpha:
             raise BadAnswer(f"what answered decided at the level {result.alpha}, and {case.alpha} was given")
         if isinstance(result, Decision) and {it.name: it.p for it in result.steps + result.kept} != case.p:
@@ -358,12 +359,22 @@ class Graph:
     def check(self, p: Any, proof: Union[Text, Evidence], alpha: Given = ALPHA) -> Checked:
         """Checks whether a proof is evidence for the rejections of this graph with these p-values at this level.
 
-        `proof` is what `evidence` returned, or the text of a document, in which the hypotheses have the program's names."""
+        `proof` is what `evidence` returned, or the text of a document, in which the hypotheses have the program's names.
+
+        `ValueError`: in the evidence the program's names stand for other labels."""
         case = self._case_of_p(p, alpha)
+        if isinstance(proof, Evidence) and proof.names:
+            self._hold_labels(proof)
         given = bytes_of(proof.text if isinstance(proof, Evidence) else proof, "proof")
         words = ["check", "proof"]
         text = self._ask(words, case, given)
-        return answered(check_answer(text, given, self._by_name), words, text, case.text)
+        return answered(check_answer(text, given, self._by_name), words, text, self._labels, case.text)
+
+    def _hold_labels(self, proof: Evidence) -> None:
+        """Refuses evidence whose document has a name for another label than this graph. That for a text has names as labels."""
+        found = dict(zip(names_for(proof.names), proof.names))
+        if found not in (self._by_name, dict(zip(self._names, self._names))):
+            raise ValueError(f"proof is evidence about other hypotheses: {', '.join(map(repr, proof.names))}")
 
     def steps(self, p: Any, alpha: Given = ALPHA, priority: str = "first") -> Tuple[Step, ...]:
         """Returns the graph before the first rejection and after each one, as the removal of the rejected hypothesis updates it.
@@ -387,8 +398,11 @@ class Graph:
         a hypothesis sum to at most its weight times alpha. As a frame of pandas it has the labels of the hypotheses on its rows
         or on its columns, and not on both. At most 12 stages.
         `looks` are the p-values in the order in which they arrive: triples of a label, a stage from 1 and a p-value, or a frame with
-        the columns hypothesis, stage and p. `at` is a number for all hypotheses, or has one for each."""
+        the columns hypothesis, stage and p. `at` is a weight above 0 and at most 1 for all hypotheses, or has one for each."""
         text = numeral(alpha, "alpha")
+        if known_value(text, "alpha") <= 0:
+            # of such a level there are no fractions, and the proved call refuses it
+            self._canon(self._case(text))
         plan: Plan = plan_of(levels, self._labels, text, at)
         lines = [Line(f"stages {plan.stages}", "levels")]
         lines += [Line(" ".join([word, self._by_label[label], *words]), f"the levels of {label!r}") for word, label, words in plan.lines]
@@ -402,12 +416,14 @@ class Graph:
     def draw(self, decision: Optional[Decision] = None) -> Picture:
         """Returns a picture of the graph, as SVG; with a decision on it, what is rejected is filled and has the number of its step.
 
-        `ValueError`: the decision has other hypotheses."""
+        `ValueError`: the decision has other hypotheses, or is that of another graph; of a text its hypotheses alone are known."""
         if decision is not None:
             if not isinstance(decision, Decision):
                 raise TypeError(f"decision is a decision, and not of type {kind_of(decision)}")
             if tuple(decision.adjusted) != self._labels:
                 raise ValueError("the decision is of other hypotheses than the graph")
+            if decision.case:
+                self._hold_own(decision, "decision")
         return picture_of(self.components, self._labels, decision)
 
     def report(self, decided: Any, file: Optional[str] = None, alpha: Optional[Given] = None, priority: Optional[str] = None,
@@ -429,7 +445,7 @@ class Graph:
             raise TypeError(f"title is a text, and not of type {kind_of(title)}")
         if file is not None and not isinstance(file, (str, os.PathLike)):
             raise TypeError(f"file is the path of a file, and not of type {kind_of(file)}")
-        self._hold_own(decided)
+        self._hold_own(decided, "decided")
         kind, count = "Staged" if isinstance(decided, Stages) else "Graphical", len(self)
         own = f"{kind} test of {count} {'hypothesis' if count == 1 else 'hypotheses'}"
         page = Page(page_of(decided.case, decided.report, decided.words, self._labels, own if title is None else title))
@@ -437,9 +453,9 @@ class Graph:
             page.save(file)
         return page
 
-    def _hold_own(self, decided: Union[Decision, Stages]) -> None:
-        """Refuses a decision that is not of this graph."""
+    def _hold_own(self, decided: Union[Decision, Stages], argument: str) -> None:
+        """Refuses a decision that is not of this graph. Graphs with the same lines may have other labels."""
         own = self._case(_ANY_ALPHA).text.split("\n")[1:]
         given = [line for line in decided.case.split("\n")[1:] if line.split(" ")[0] not in _NOT_OF_THE_GRAPH]
-        if given != own:
-            raise ValueError("decided is not a decision of this graph")
+        if given != own or decided.names != self._labels:
+            raise ValueError(f"{argument} is not a decision of this graph")

@@ -36,14 +36,20 @@ def names_for(labels: Sequence[str]) -> Tuple[str, ...]:
     return tuple(names)
 
 
+def hold_distinct(labels: Sequence[Any], argument: str) -> None:
+    """Refuses labels of which one occurs twice. The message names the argument and the label."""
+    listed = list(labels)
+    for label in listed:
+        if listed.count(label) > 1:
+            raise ValueError(f"{argument}: the label {label!r} occurs {listed.count(label)} times")
+
+
 def hold_labels(labels: Sequence[str], argument: str) -> Tuple[str, ...]:
     """Returns labels, once they are texts and distinct. The messages name the argument and the label."""
     for number, label in enumerate(labels, 1):
         if not isinstance(label, str):
             raise TypeError(f"{argument}: label {number} is a text, and not {label!r} of type {kind_of(label)}")
-    repeated = [label for label in labels if list(labels).count(label) > 1]
-    if repeated:
-        raise ValueError(f"{argument}: the label {repeated[0]!r} occurs {list(labels).count(repeated[0])} times")
+    hold_distinct(labels, argument)
     # the text itself, and not what its class, such as an enumeration, shows for it
     return tuple(map(str.__str__, labels))
 
@@ -66,6 +72,12 @@ def is_sequence(given: Any) -> bool:
 def is_array(given: Any) -> bool:
     """Whether something is an array, as numpy, pandas and Python have them; a view of bytes is none."""
     return callable(getattr(given, "tolist", None)) and not isinstance(given, memoryview)
+
+
+def is_many(given: Any) -> bool:
+    """Whether something has places for several values: a list, a tuple, a dict, a series, or an array with dimensions."""
+    has_places = getattr(given, "ndim", int(hasattr(given, "tolist"))) > 0
+    return isinstance(given, (list, tuple, dict)) or hasattr(given, "items") or has_places
 
 
 def is_frame(given: Any) -> bool:

@@ -189,8 +189,9 @@ def _joined(words: Iterable[Text]) -> bytes:
     except TypeError:
         raise TypeError(f"words are a list of texts, and not of type {kind_of(words)}") from None
     pieces = [bytes_of(word, f"word {number}") for number, word in enumerate(listed, 1)]
-    if any(b"\0" in piece for piece in pieces):
-        raise ValueError("a word holds a byte 0")
+    for number, piece in enumerate(pieces, 1):
+        if b"\0" in piece:
+            raise ValueError(f"word {number} holds a byte 0")
     return b"".join(piece + b"\0" for piece in pieces)
 
 

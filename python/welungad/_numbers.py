@@ -1,7 +1,7 @@
 """Numbers: how a number of Python becomes an exact fraction, and the one function that writes it for the program.
 
 A Fraction, an int, a Decimal and a text are taken as they are. A double is read by this rule, which R has too. Its rounding
-interval are the rationals that round to it. It is read as
+interval has the rationals that round to it. It is read as
 
 1. the fraction of the interval with the least denominator, if that is at most 10,000;
 2. else the multiple of 10^-j in the interval with the least j up to 30, of several the one nearest to the double, of two the one
@@ -38,7 +38,6 @@ _NUMERAL = re.compile(r"[+-]?(?:(?P<whole>[0-9]+)/(?P<parts>[0-9]+)"
 
 # What an edge is written with: the tokens of an expression, and blanks.
 _EXPRESSION = re.compile(r"(?:[0-9.eE+\-*/()^ \t]|\\epsilon)*")
-
 
 
 class PrintedDoubleWarning(UserWarning):
@@ -144,6 +143,14 @@ def value_of(text: str) -> Optional[Fraction]:
     return sign * digits * Fraction(10)**power
 
 
+def known_value(text: str, place: str) -> Fraction:
+    """Returns the value of a numeral. `ValueError`: it has none that is known here."""
+    value = value_of(text)
+    if value is None:
+        raise ValueError(f"{place} is {text}, which has no value within reach")
+    return value
+
+
 def fraction_text(fraction: Rational) -> str:
     """Returns a fraction as the program reads it: n/d, or n if d is 1."""
     n, d = int(fraction.numerator), int(fraction.denominator)
@@ -152,11 +159,12 @@ def fraction_text(fraction: Rational) -> str:
 
 def printed_double(text: str) -> Optional[Fraction]:
     """Returns the fraction that a text is the printed double of, if the text itself is another number: 1/3 for
-    "0.3333333333333333"."""
+    "0.3333333333333333", and for what C and the files of numpy have for it."""
     if len(text) < _DIGITS_OF_A_DOUBLE or value_of(text) is None or "/" in text:
         return None
     double = float(text)
-    found = _small_fraction(double) if 0 < double <= 1 and repr(double) == text else None
+    is_printed = text in (repr(double), f"{double:.17g}", f"{double:.18e}")
+    found = _small_fraction(double) if 0 < double <= 1 and is_printed else None
     return None if found == value_of(text) else found
 
 
@@ -179,21 +187,28 @@ def _is_of_times(value: Any) -> bool:
     return getattr(getattr(value, "dtype", None), "kind", "") in ("m", "M")
 
 
+def _type_of_numbers(value: Any) -> Any:
+    """Returns the type of the numbers of an array, if it has one: of a sparse or a categorical array of pandas that of what it holds."""
+    dtype = getattr(value, "dtype", None)
+    categories = getattr(dtype, "categories", None)
+    return getattr(categories, "dtype", getattr(dtype, "subtype", dtype))
+
+
 def plain(value: Any, place: str) -> Any:
     """Returns what an array, or a scalar of numpy, holds, as lists and numbers of Python.
 
-    `TypeError`: its numbers have other digits than a double, so that they are not the doubles that they look like; they are times; or
-    numpy has turned doubles into texts, since there was a text among them.
+    `TypeError`: its numbers have other digits than a double, or may have, so that they are not the doubles that they look like; they
+    are times; or numpy has turned doubles into texts, since there was a text among them.
     """
-    dtype = getattr(value, "dtype", None)
+    dtype = _type_of_numbers(value)
     kind = getattr(dtype, "kind", "")
     if _is_of_times(value):
         raise TypeError(f"{place} is of type {dtype}, and times are no numbers")
     found = value.tolist()
-    size = getattr(dtype, "itemsize", getattr(value, "itemsize", 8))
+    size = getattr(dtype, "itemsize", getattr(value, "itemsize", None))
     if size != 8 and kind != "O" and (kind == "f" or _has_doubles(found)):
-        of = kind_of(value) if dtype is None else dtype
-        raise TypeError(f"{place} is of type {of}, whose numbers are not doubles: give doubles, fractions or texts")
+        of, are = kind_of(value) if dtype is None else dtype, "may not be" if size is None else "are not"
+        raise TypeError(f"{place} is of type {of}, whose numbers {are} doubles: give doubles, fractions or texts")
     if type(found) is type(value):
         raise TypeError(f"{place} is a number, and not of type {kind_of(value)}")
     for text in _texts(found) if kind == "U" else ():
@@ -230,7 +245,7 @@ def numeral(value: Given, place: str) -> str:
     if isinstance(value, Decimal):
         if not value.is_finite():
             raise ValueError(f"{place} is {value}, and not from 0 to 1")
-        return numeral(str(value), place)
+        return numeral(Decimal.__str__(value), place)
     if isinstance(value, str):
         text = value.strip(" \t")
         if len(text) > _MOST_CHARACTERS:

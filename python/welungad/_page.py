@@ -9,7 +9,7 @@ from types import ModuleType
 from typing import Any, Dict, List, Optional, Sequence, Union
 
 from ._library import PACKAGE, Text, about, checkout, prefixes, run
-from ._refusals import BadAnswer, Refused
+from ._refusals import BadAnswer
 
 SCRIPTS = ("report", "findings", "reports", "refusals", "draw", "make_evidence", "check_evidence")
 # the folder of the package with a copy of the scripts, and of the page in which they find the causes and the cures of refusals
@@ -64,14 +64,12 @@ def _report() -> ModuleType:
 def page_of(case: Text, printed: str, words: Sequence[str], labels: Sequence[str], title: str) -> str:
     """Returns the page of a decision: of the case as a text, the report that was printed on it, and the words of its call.
 
-    `Refused`, `BadAnswer`: the call does not print this report again, or one of the further reports is none.
+    `BadAnswer`: the call does not print this report again, or one of the further reports is none.
     """
     priority: Optional[str] = words[2] if len(words) > 2 else None
     report = _report()
     try:
         page: str = report.page(case, run, labels=list(labels), program=about(), priority=priority, title=title, report=printed)
-    except report.Refused as refused:
-        raise Refused(refused.args[1], refused.args[2]) from None
     except report.NotAReport as error:
         raise BadAnswer(f"there is no page: {error}") from None
     return page

@@ -16,7 +16,7 @@ def _recorded() -> List[str]:
     stamp = os.path.join(PACKAGE, "stamp")
     if not os.path.isfile(stamp):
         return []
-    with open(stamp, encoding="utf-8") as file:
+    with open(stamp, encoding="utf-8", errors="surrogateescape") as file:
         return [line[len("program "):].rstrip("\n") for line in file if line.startswith("program ")]
 
 

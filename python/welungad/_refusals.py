@@ -128,7 +128,7 @@ class Refused(Exception):
 
     `status` is that of the call: USAGE, MALFORMED, LIMIT, TOO_WIDE or NO_MEMORY; of a study also 6 (a file cannot be read) or 9
     (the file of looks failed). `line` is the program's one line, without its line feed. `explanation` says what the line means.
-    `where` names the argument of a method of `Graph` that the line is about, such as "p of 'H2'"; it is empty else.
+    `where` names the argument of a method of `Graph` that the line is about, such as "the p-value of 'H2'"; it is empty else.
     """
 
     def __init__(self, status: int, line: str, where: str = ""):

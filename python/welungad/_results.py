@@ -10,22 +10,22 @@ from ._page import write_page
 @dataclass(frozen=True)
 class Answer:
     """What every result has: `report` is the text that the proved call printed, byte for byte, `words` are those of the command, and
-    `case` is the text of the case that it decided, in which the hypotheses have the program's names. `case` is empty if the caller
-    gave a text himself."""
+    `names` are the labels of the hypotheses in their order. `case` is the text of the case that was decided, in which the hypotheses
+    have the program's names; it is empty if the caller gave a text."""
 
     report: str = field(default="", init=False, repr=False, compare=False)
     case: str = field(default="", init=False, repr=False, compare=False)
     words: Tuple[str, ...] = field(default=(), init=False, repr=False, compare=False)
+    names: Tuple[str, ...] = field(default=(), init=False, repr=False, compare=False)
 
 
 Result = TypeVar("Result", bound=Answer)
 
 
-def answered(result: Result, words: Sequence[str], report: str, case: str = "") -> Result:
-    """Returns the result, once it has the words of its call and the texts that it was read from."""
-    object.__setattr__(result, "report", report)
-    object.__setattr__(result, "case", case)
-    object.__setattr__(result, "words", tuple(words))
+def answered(result: Result, words: Sequence[str], report: str, names: Sequence[str], case: str = "") -> Result:
+    """Returns the result, once it has the words of its call, the labels of the hypotheses, and the texts that it was read from."""
+    for name, value in [("report", report), ("case", case), ("words", tuple(words)), ("names", tuple(names))]:
+        object.__setattr__(result, name, value)
     return result
 
 
@@ -253,7 +253,7 @@ class Picture:
 
     svg: str = field(repr=False)
 
-    def save(self, path: str) -> None:
+    def save(self, path: Union[str, "PathLike[str]"]) -> None:
         """Writes the picture to a file."""
         with open(path, "w", encoding="utf-8") as file:
             file.write(self.svg)

@@ -3,9 +3,9 @@ import re
 from fractions import Fraction
 from typing import Any, List, Mapping, NamedTuple, Optional, Sequence, Tuple
 
-from ._hypotheses import frame_labels, frame_rows, in_order, is_frame, order_of, rows_of, values_of
+from ._hypotheses import frame_labels, frame_rows, hold_distinct, in_order, is_frame, is_many, order_of, rows_of, values_of
 from ._library import kind_of
-from ._numbers import fraction_text, numeral, value_of, whole
+from ._numbers import fraction_text, known_value, numeral, whole
 
 
 class Spend(NamedTuple):
@@ -31,18 +31,16 @@ class Arriving(NamedTuple):
     p: str
 
 
-def _value(text: str, place: str) -> Fraction:
-    value = value_of(text)
-    if value is None:
-        raise ValueError(f"{place} is {text}, which has no value within reach")
-    return value
-
-
 def _hold_stages(stages: Optional[List[Any]]) -> None:
-    """Refuses labels of stages that have falling numbers: levels are taken in the order in which they are given."""
-    found = [re.fullmatch("[^0-9]*([0-9]{1,9})[^0-9]*", str(label)) for label in stages or ()]
+    """Refuses labels of stages that occur twice or have falling numbers, and such as "stage 3" at another place than the third: levels
+    are taken in the order in which they are given."""
+    labels = list(map(str, stages or ()))
+    hold_distinct(labels, "levels")
+    found = [re.fullmatch("[^0-9]*([0-9]{1,9})[^0-9]*", label) for label in labels]
     numbers = [int(it[1]) for it in found if it]
-    if len(numbers) == len(found) and numbers != sorted(numbers):
+    is_falling = len(numbers) == len(found) and numbers != sorted(numbers)
+    counted = [re.fullmatch("[Ss]tage ?([0-9]{1,9})", label) for label in labels]
+    if is_falling or any(it and int(it[1]) != number for number, it in enumerate(counted, 1)):
         raise ValueError(f"levels: the stages are {', '.join(map(repr, stages or ()))}, and levels are given from the first stage to the last")
 
 
@@ -82,22 +80,27 @@ def _spend(given: Any, label: str, level: Fraction) -> List[Spend]:
     what = f"the levels of {label!r}"
     if isinstance(given, Mapping):
         return [Spend("table", label, [numeral(weight, f"a weight in {what}"), *_list(own, label, what)]) for weight, own in given.items()]
-    texts = _list(given, label, what)
-    if not level:
-        raise ValueError(f"at: the weight of {label!r} is 0, so that levels count at no weight")
-    return [Spend("spend", label, [fraction_text(_value(text, what) / level) for text in texts])]
+    return [Spend("spend", label, [fraction_text(known_value(text, what) / level) for text in _list(given, label, what)])]
+
+
+def _weight_at(given: Any, label: str) -> Fraction:
+    """Returns the weight at which the levels of a hypothesis count."""
+    text = numeral(given, f"at of {label!r}")
+    weight = known_value(text, "at")
+    if not 0 < weight <= 1:
+        raise ValueError(f"at of {label!r} is {text}, and not above 0 and at most 1")
+    return weight
 
 
 def _weights_at(at: Any, labels: Sequence[str]) -> List[Fraction]:
-    """Returns the weight at which the levels of each hypothesis count."""
-    is_many = isinstance(at, (Mapping, list, tuple)) or (hasattr(at, "tolist") and getattr(at, "ndim", 0) == 1)
-    values = in_order(at, labels, "at") if is_many else [at] * len(labels)
-    return [_value(numeral(value, f"at of {label!r}"), "at") for label, value in zip(labels, values)]
+    """Returns the weight at which the levels of each hypothesis count, in their order."""
+    values = in_order(at, labels, "at") if is_many(at) else [at] * len(labels)
+    return list(map(_weight_at, values, labels))
 
 
 def plan_of(levels: Any, labels: Sequence[str], alpha: str, at: Any) -> Plan:
-    """Returns the lines of what the hypotheses spend at a level. The arguments are those of `Graph.stages`."""
-    given, weights, level = _levels(levels, labels), _weights_at(at, labels), _value(alpha, "alpha")
+    """Returns the lines of what the hypotheses spend at a level above 0. The arguments are those of `Graph.stages`."""
+    given, weights, level = _levels(levels, labels), _weights_at(at, labels), known_value(alpha, "alpha")
     lines = [line for label, own, weight in zip(labels, given, weights) for line in _spend(own, label, level * weight)]
     counts = {len(line.words) - (line.word == "table"): line.label for line in lines}
     if len(counts) > 1:
@@ -121,7 +124,7 @@ def _look(triple: Any, number: int, labels: Sequence[str]) -> Arriving:
     if not isinstance(triple, (list, tuple)) or len(triple) != 3:
         raise TypeError(f"look {number} is a hypothesis, a stage and a p-value, and not {triple!r}")
     label, stage, p = triple
-    if label not in labels:
+    if not isinstance(label, str) or label not in labels:
         raise ValueError(f"look {number}: {label!r} is not the name of a hypothesis: they are {', '.join(map(repr, labels))}")
     found = whole(stage, f"the stage of look {number}")
     if found < 1:

@@ -21,7 +21,7 @@ Reply = Union[Look, RefusedLook]
 
 
 class _Asked(NamedTuple):
-    """A look that is asked for: its hypothesis, its stage from 1, and its p-value as a numeral."""
+    """A look that is requested: its hypothesis, its stage from 1, and its p-value as a numeral."""
 
     name: str
     stage: int
@@ -73,14 +73,14 @@ def _file_of(text: str) -> Iterator[str]:
 
 
 def _read_look(report: Report, asked: _Asked, number: int) -> Reply:
-    """Reads the reply to a look, which has to be the one that was asked for."""
+    """Reads the reply to a look, which has to be the one that was requested."""
     if report.is_at("refused"):
         place, reason = report.take("refused")
         report.require(place == f"{number}:" and reason in _REASONS, f"it does not say why command {number} is refused")
         return RefusedLook(asked.name, asked.stage, reason)
     name, stage, p = report.take("look")
     same = (report.label(name), int(stage), Fraction(p)) == (asked.name, asked.stage, value_of(asked.p))
-    report.require(same, f"its look {name} {stage} {p} is not the one that was asked for")
+    report.require(same, f"its look {name} {stage} {p} is not the one that was requested")
     return Look(name, int(stage), Fraction(p), report.take_all("reject", partial(settled, report)))
 
 
@@ -98,7 +98,7 @@ class _Replies(NamedTuple):
 
 
 def _read_study(report: Report, alpha: Fraction, asked: Sequence[_Asked]) -> _Replies:
-    """Reads the report of a run of the looks that were asked for, and of `show` after them."""
+    """Reads the report of a run of the looks that were requested, and of `show` after them."""
     (level,) = report.take("alpha")
     report.require(Fraction(level) == alpha, f"its level is {level}")
     (records,) = report.take("records")
@@ -123,8 +123,8 @@ class Study:
     canonical text of the case is then written to STORE.case. A file of looks has positions in place of names, so it is opened for
     the case that it was made for and for no other.
 
-    Every call runs the program, which the environment variable WELUNGAD names; else it is the one of this checkout or this
-    installation, or on the search path.
+    Every call runs the program, which the environment variable WELUNGAD names; else it is that of the checkout or the installation
+    that this package lies in or was installed from, or the one on the search path.
 
     `TypeError`: the case is not a text, or the store not a path. `ValueError`: the file was made for another case, or it is not
     said for which. `Refused`: the case, a look or the file is refused. `BadAnswer`: what answered is not the program, or did not
@@ -190,7 +190,8 @@ class Study:
         found = whole(stage, f"the stage of look {number}")
         if not 0 <= found < 10**9:
             raise ValueError(f"the stage of look {number} is {found}, and stages count from 1")
-        return _Asked(name, found, numeral(p, f"the p-value of look {number}"))
+        # the text of the case, and not what the class of `name`, such as an enumeration, shows for it
+        return _Asked(self.names[self.names.index(name)], found, numeral(p, f"the p-value of look {number}"))
 
     def _run(self, asked: List[_Asked], keep: bool) -> _Replies:
         """Runs the program on looks and on `show` after them, with the file of looks or with none."""

@@ -82,7 +82,8 @@ def decide_rows(case: str, rows: Sequence[Row], labels: Sequence[str], decide: C
                 own, decision, cause = _decide_row(number, row, labels, decide)
                 if status not in (None, own):
                     raise BadAnswer(f"what answered has the status {status} for row {number}, and {own} for its p-values as texts")
-                refused.update({number: cause} if own != DONE else {})
+                if own != DONE:
+                    refused[number] = cause
                 status = own
             statuses.append(status)
             rejected.append(decision)
