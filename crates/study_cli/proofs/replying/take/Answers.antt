@@ -1,15 +1,15 @@
-use Rattle.std.proofs.Common.{◌≡◌, ◌+◌, [], ◌∷◌, ◌++◌, sym, ap, ap₂, ◌∙◌, subst, drop, length}
+use Rattle.std.proofs.Common.{◌+◌, [], ◌∷◌, ◌++◌, Err, sym, ap, ap₂, ◌∙◌, subst, drop, length}
 use Rattle.graph_io.specs.Causes.{Rose}
 use Rattle.case_model.specs.CaseView.{content}
 use Rattle.report.specs.StagesReport.{AreRejectionsOf}
 use Rattle.report.specs.StudyReport.{refused_line}
 use Rattle.study_cli.specs.declared.command.StudyCommand.TheVariants.{Take as AskTake}
 use Rattle.study_register.specs.RegisterFaults.{turns_of}
-use Rattle.study_register.specs.RegisterView.{study_in, looks_in}
+use Rattle.study_register.specs.RegisterView.{looks_in}
 use Rattle.study_cli.specs.AnswerView.{StopsCommands}
 use Rattle.study_cli.specs.declared.replying.CommandStop.TheVariants.{Wide}
-use Rattle.study_cli.proofs.CommandsReplied.{added_refused, added_turns, added_wide, left_refused, brought, brought_below, taken_written, refused_written, holds_none}
-use Rattle.study_cli.proofs.CommandsReplied.{holds_one, stops_wide, stops_failed, left_memory, wide_turns, failed_turns, added_failed}
+use Rattle.study_cli.proofs.CommandsReplied.{added_refused, added_turns, added_wide, brought, brought_below, taken_written, refused_written, holds_none}
+use Rattle.study_cli.proofs.CommandsReplied.{holds_one, stops_wide, stops_failed, wide_turns, failed_turns, added_failed}
 use Rattle.study_cli.proofs.replying.take.Goals as goal
 
 pub put_taken-requires-clause-rejections : goal.put_taken-requires-clause-rejections
@@ -48,7 +48,7 @@ returns-in-Ok-put_refused-clause-replied g c =
     refused_written k c.args.number old (g.K.Keeper.looks c.args.keeper.now) (g.K.Keeper.calls c.args.keeper.now) c.args.look.now
     (g.K.Keeper.looks c.add.new.keeper) c.args.text.now c.put_refused.new.text (looks_in c.add.new.self) e.fault
     (added_refused k old c.args.look.now rose e.field-0 e.fault e.field-0-is (e.ensures.fault k c.requires.study))
-    (ap (λ s. s.looks) (left_refused (study_in c.add.new.self ≡ study_in c.args.register.now) e.field-0 e.fault e.field-0-is e.ensures.refused))
+    (ap (λ s. s.looks) (e.ensures.refused e.fault (ap Err e.field-0-is)))
     e.ensures.unchanged (g.K.Keeper.calls c.add.new.keeper)
     (added_turns (g.K.Keeper.calls c.args.keeper.now) (g.K.Keeper.calls c.add.new.keeper) e.field-0 e.fault e.field-0-is
     (c.add.ensures.turns ∙ ap (λ r. g.K.Keeper.calls c.args.keeper.now + turns_of r) e.is)) (c.in-Ok-put_refused.ensures.put ∙ ap (λ f. c.args.text.now ++ refused_line c.args.number f) e.fault-is)
@@ -86,6 +86,3 @@ returns-in-Err-Fault-clause-stopped g c =
     stops_failed k c.args.number old (g.K.Keeper.looks c.args.keeper.now) c.args.look.now (g.K.Keeper.looks c.add.new.keeper) before now rose
     (added_failed k old c.args.look.now rose e.field-0 e.field-0-is (e.ensures.fault k c.requires.study)) e.ensures.unchanged
     (failed_turns before now e.field-0 e.field-0-is (c.add.ensures.turns ∙ ap (λ r. before + turns_of r) e.is))
-
-pub returns-in-Err-NoMemory-clause-counted : goal.returns-in-Err-NoMemory-clause-counted
-returns-in-Err-NoMemory-clause-counted g c = let e = c.in-Err-NoMemory in left_memory _ e.field-0 e.field-0-is e.ensures.memory
