@@ -27,7 +27,7 @@ use Rattle.study_register.specs.declared.fault.AddFault.TheVariants as additions
 use Rattle.study_cli.specs.declared.replying.CommandStop.{CommandStop}
 use Rattle.study_cli.specs.declared.replying.CommandStop.TheVariants.{Wide, Fault, NoMemory}
 use Rattle.study_cli.specs.Replies.{taken_in, looks_taken, IsReply, AreReplies, IsFirstBreak, MayTake}
-use Rattle.study_cli.specs.AnswerView.{with_looks, IsRepliedTo, AreRepliedTo, HoldSome, StopsCommands, IfBroken}
+use Rattle.study_cli.specs.AnswerView.{with_looks, IsRepliedTo, AreRepliedTo, HoldSome, StopsCommands}
 use Rattle.study_cli.proofs.Looks.{with_none, with_one, with_more}
 
 -- ---- additions
@@ -134,14 +134,6 @@ module _ (c : Content) (n : ℕ) (old : StudyState) (kept : Option (List Look)) 
       (r, record { more = []; may = (inl refl, omega (arith, once)); held_is = h ∙ sym (with_none kept) })
 
 -- ---- commands that stop part way
-
-pub broken_weaker : (stop : CommandStop) (P Q : Type 0) → (P → Q) → IfBroken P stop → IfBroken Q stop
-broken_weaker (Wide place w) P Q f h = f h
-broken_weaker Fault P Q f h = tt
-broken_weaker NoMemory P Q f h = f h
-
-pub broken_by : (stop : CommandStop) (place : ℕ) (w : WideAt) (P : Type 0) → stop ≡ Wide place w → IfBroken P stop → P
-broken_by stop place w P e h = subst (IfBroken P) e h
 
 pub first_broken : (c : Content) (old : StudyState) (commands : List StudyCommand) (kept held : Option (List Look)) (before now : ℕ) (rose : Type 0)
     (stop : CommandStop) (place : ℕ) (w : WideAt) → stop ≡ Wide place w → StopsCommands c rose 1 old commands kept held before now stop

@@ -1,5 +1,5 @@
 -- Replies and ends as contracts see them, with the looks that a keeper holds.
-use Rattle.std.specs.Prelude.{◌≡◌, ◌+◌, ◌++◌, ◌⊎◌, ℕ, List, [], length, IfSome, Option, Some, None, Result, Ok, Err}
+use Rattle.std.specs.Prelude.{◌≡◌, ◌+◌, ◌++◌, ◌⊎◌, ℕ, List, [], length, IfSome, Option, Some, None}
 use Rattle.std.specs.List.{flat_map}
 use Rattle.graph_io.specs.Causes.{Rose}
 use Rattle.graph_io.specs.declared.keeper.Look.{Look}
@@ -68,17 +68,6 @@ StopsCommands c rose n old commands kept held before now NoMemory = HoldSome (Ma
 abbrev pub StopsOver : Content → ℕ → StudyState → List StudyCommand → (before now : Keeping) → CommandStop → Type 0
 StopsOver c n old commands before now stop =
     StopsCommands c (Rose before.faults now.faults) n old commands before.looks now.looks before.calls now.calls stop
-
--- a fact if the keeper had no fault: a command stops part way, or memory was exhausted
-abbrev pub IfBroken : Type 0 → CommandStop → Type 0
-IfBroken p (Wide place w) = p
-IfBroken p Fault = Unit {0}
-IfBroken p NoMemory = p
-
--- a fact if the keeper had no fault
-abbrev pub IfFaultless : Type 0 → Result (Unit {0}) CommandStop → Type 0
-IfFaultless p (Ok x) = p
-IfFaultless p (Err stop) = IfBroken p stop
 
 -- An answer that is required, and its looks are added. The keeper was called once to load its looks, and once for each look that is added.
 pub record KeepWith (Gives : StudyEnd → Type 0) (kept held : Option (List Look)) (before now : ℕ) (answer : Answer) : Type 0 where
