@@ -1,6 +1,5 @@
 -- Values and troubles that are handed on.
-use Rattle.std.proofs.Common.{◌≡◌, ◌≢◌, refl, sym, subst, inl, inr, true, true≢false, ℕ, List, Result, Ok, Err}
-use Rattle.std.specs.Prelude.{IfOk, OnOk, MatchResult, is_ok}
+use Rattle.std.proofs.Common.{◌≡◌, ◌≢◌, refl, sym, subst, inl, inr, ℕ, List, Result, Ok, Err}
 use Rattle.std.specs.Result.{IsErrAnd}
 use Rattle.answers.specs.declared.answer.Answer.{Answer}
 use Rattle.answers.specs.declared.refusal.Refusal.{Refusal}
@@ -11,20 +10,6 @@ use Rattle.answers.proofs.Stopping.{StopsBy}
 use Rattle.graph_cli.specs.Troubles.{Meets, StopsAt, IsTold, line_of}
 use Rattle.graph_cli.specs.declared.trouble.Trouble.{Trouble}
 use Rattle.graph_cli.specs.declared.trouble.Trouble.TheVariants.{NoMemory}
-
-same_ok : {A F : Type 0} (x y : A) → Path (Result A F) (Ok x) (Ok y) → x ≡ y
-same_ok x y e = cc
-
--- what a result gave whose errors were reported otherwise
-pub kept_ok : (F : Type 0) {A E : Type 0} (r : Result A E) (P : A → Type 0) (Q : E → Type 0) (x : A) → IfOk r P
-    → MatchResult r (λ y. Path (Result A F) (Ok x) (Ok y)) Q → true ≡ is_ok r → P x
-kept_ok F (Ok y) P Q x h m v = subst P (sym (same_ok x y m)) h
-kept_ok F (Err e) P Q x h m v = absurd (true≢false v)
-
--- what held where a result was given whose errors were reported otherwise
-pub kept_on : {A E : Type 0} (r : Result A E) (P : Type 0) → OnOk r P → true ≡ is_ok r → P
-kept_on (Ok x) P h v = h
-kept_on (Err e) P h v = absurd (true≢false v)
 
 -- a trouble of a part is one of the whole
 pub err_on : {A : Type 0} (s : Stage Trouble A) (r : Result A Trouble) (t : Trouble) → IsErrAnd r (λ e. e ≡ t) → (t ≢ NoMemory → s.Refuses t) → Meets s r

@@ -6,7 +6,7 @@ use Rattle.std.proofs.Math.Seq.{take-add}
 use Rattle.std.proofs.lemmas.List.{take_at, take-append-drop, drop-drop, length-append}
 use Rattle.std.specs.declared.option.Option.{Option}
 use Rattle.std.specs.Io.KnownBytes.{Appends, Consumes}
-use Rattle.graph_io.specs.Reading.{TookAtMost}
+use Rattle.graph_io.specs.Reading.{TookAtMost, TookInTurns}
 
 rest_whole : (i : ℕ) (bytes : List ℕ) → take (length bytes - i) (drop i bytes) ≡ drop i bytes
 rest_whole i bytes = grind (arith, common_steps)
@@ -20,6 +20,11 @@ Appends-piece a b c i n bytes p q = rw (take-add i n bytes) (Appends-trans a b c
 pub TookAtMost-piece : (a b c : Option (List ℕ)) (n : ℕ) (bs cs : List ℕ) → Consumes a b bs → Consumes b c cs → length bs + length cs ≤ n
     → TookAtMost a c n
 TookAtMost-piece a b c n bs cs p q h = (bs ++ cs, Consumes-trans a b c bs cs p q, rw length-append h)
+
+-- one more piece is taken, by one more call
+pub TookInTurns-piece : (a b c : Option (List ℕ)) (before now : ℕ) (bs cs : List ℕ) → Consumes a b bs → Consumes b c cs
+    → now ≤ before + (length bs + length cs + 1) → TookInTurns a c before now
+TookInTurns-piece a b c before now bs cs p q h = (bs ++ cs, Consumes-trans a b c bs cs p q, rw length-append h)
 
 -- the front of the bytes from `at` on is now in the front of a buffer
 pub moved : (all bytes old new : List ℕ) (at count : ℕ) → all ≡ bytes → new ≡ take count (take (length all - at) (drop at all))

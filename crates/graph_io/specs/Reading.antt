@@ -14,6 +14,10 @@ TookCount old new n = (bs : List ℕ) × Consumes old new bs × (length bs ≡ n
 abbrev pub TookAtMost : Option (List ℕ) → Option (List ℕ) → ℕ → Type 0
 TookAtMost old new n = (bs : List ℕ) × Consumes old new bs × (length bs ≤ n)
 
+-- the first bytes were taken, by at most one call more than there are bytes
+abbrev pub TookInTurns : Option (List ℕ) → Option (List ℕ) → (before now : ℕ) → Type 0
+TookInTurns old new before now = (bs : List ℕ) × Consumes old new bs × (now ≤ before + (length bs + 1))
+
 -- why the reading of at most limit bytes ended early
 abbrev pub EndedBy : ℕ → Option (List ℕ) → Option (List ℕ) → ℕ → ℕ → ReadEnd → Type 0
 EndedBy limit old new before now Fault = Rose before now

@@ -11,26 +11,27 @@ use Rattle.answers.specs.Runs.{Runs, IsConcluded}
 use Rattle.answers.specs.Stages.{most_bytes}
 use Rattle.graph_cli.specs.Outcome as graph
 use Rattle.study_cli.specs.StudyOutcome as study
-use Rattle.program.specs.Asks.{Ask, open_file, close_file, open_store, close_store}
+use Rattle.program.specs.Requests.{Request, open_file, close_file, open_store, close_store, opened, refused, without_memory}
 use Rattle.program.specs.declared.opener.Opener.{Ghosts}
 
 -- the path of the file that the words name: a proof, or the commands of a study
 abbrev pub NamesPath : List (List ℕ) → List ℕ → Type 0
 NamesPath words path = (place : ℕ) × graph.NamesFile words place × (slice_get words place ≡ Some path)
 
--- An opener was requested to open the file that the words name.
-abbrev pub IsAskedForFile : {O : Type 0} → (O → Ask → O → Type 0) → List (List ℕ) → O → O → Type 0
-IsAskedForFile Does words old new = (path : List ℕ) × NamesPath words path × Does old (open_file path) new
+-- An opener was requested to open the file that the words name, and had no memory for it.
+abbrev pub LacksMemoryForFile : {O : Type 0} → (O → Request → O → Type 0) → List (List ℕ) → O → O → Type 0
+LacksMemoryForFile Does words old new = (path : List ℕ) × NamesPath words path × Does old (open_file path without_memory) new
 
--- An opener was requested to open the store that the words name.
-abbrev pub IsAskedForStore : {O : Type 0} → (O → Ask → O → Type 0) → List (List ℕ) → O → O → Type 0
-IsAskedForStore Does words old new = (path : List ℕ) × study.NamesStore words path × Does old (open_store path) new
+-- An opener was requested to open the store that the words name, and had no memory for it.
+abbrev pub LacksMemoryForStore : {O : Type 0} → (O → Request → O → Type 0) → List (List ℕ) → O → O → Type 0
+LacksMemoryForStore Does words old new = (path : List ℕ) × study.NamesStore words path × Does old (open_store path without_memory) new
 
--- There was no memory to open a file or store that the words name: the status is 8, `same` states what is as it was, and `asked` what was requested.
-pub record IsStopped (status : ℕ) (same asked : Type 0) : Type 0 where
+-- There was no memory to open a file or store that the words name: the status is 8, `same` states what is as it was, and `lacking` for what there was
+-- no memory.
+pub record IsStopped (status : ℕ) (same lacking : Type 0) : Type 0 where
   pub status_is : status ≡ 8
   pub same_is : same
-  pub asked_for : asked
+  pub lacks : lacking
 
 -- a file that wasn't called yet, with what it holds
 abbrev pub unread : Option (List ℕ) → Reading
@@ -73,9 +74,11 @@ module _ {O F K : Type 0} (opener : Ghosts O F K) (words : List (List ℕ)) wher
     pub before : Option (List ℕ)
     pub after : Reading
     pub file :
-        ((path : List ℕ) × NamesPath words path × opener.does old (open_file path) from
-        × (((before ≡ opener.bytes_at old path) × opener.does to (close_file path after.left after.faults after.calls) new)
-        ⊎ (opener.may_refuse old path × (before ≡ Some []) × (after.faults ≡ min after.calls (2 ^ 64 - 1)) × (new ≡ to))))
+        ((path : List ℕ) × NamesPath words path
+        × ((opener.does old (open_file path opened) from × (before ≡ opener.bytes_at old path)
+        × opener.does to (close_file path after.left after.faults after.calls) new)
+        ⊎ (opener.does old (open_file path refused) from × opener.may_refuse old path × (before ≡ Some [])
+        × (after.faults ≡ min after.calls (2 ^ 64 - 1)) × (new ≡ to))))
         ⊎ (((path : List ℕ) → ¬ NamesPath words path) × (from ≡ old) × (new ≡ to) × (before ≡ Some []) × (after.faults ≡ 0))
     pub done : Done from to before after
 
@@ -83,8 +86,8 @@ module _ {O F K : Type 0} (opener : Ghosts O F K) (words : List (List ℕ)) wher
   -- those that failed. If no store is named, none is requested, there are no looks before and no faults, and the number of calls is left open.
   abbrev pub IsStored : (from to : O) → (kept : Option (List Look)) → (store : Keeping) → Type 0
   IsStored from to kept store =
-      ((path : List ℕ) × study.NamesStore words path × (asked : O) × opener.does from (open_store path) asked × (kept ≡ opener.looks_at from path)
-      × opener.does asked (close_store path store.looks store.faults store.calls) to)
+      ((path : List ℕ) × study.NamesStore words path × (between : O) × opener.does from (open_store path opened) between × (kept ≡ opener.looks_at from path)
+      × opener.does between (close_store path store.looks store.faults store.calls) to)
       ⊎ (((path : List ℕ) → ¬ study.NamesStore words path) × (to ≡ from) × (kept ≡ Some []) × (store.faults ≡ 0))
 
   -- A call of a study does what `run_study` does over the file and the looks that were kept.
@@ -110,14 +113,14 @@ module _ {O F K S W : Type 0} (opener : Ghosts O F K) (source : SourceGhosts S) 
   -- `run_study` was called over the file, or there was no memory to open the store that the words name; then all is as it was
   abbrev pub MakesStudy : (from to : O) → Option (List ℕ) → Reading → Type 0
   MakesStudy from to before after =
-      IsStopped status ((case_new ≡ case_old) × (out_new ≡ out_old) × IsUnread before after) (IsAskedForStore opener.does words from to)
+      IsStopped status ((case_new ≡ case_old) × (out_new ≡ out_old) × IsUnread before after) (LacksMemoryForStore opener.does words from to)
       ⊎ IsStudied opener words (reading source case_old) (reading source case_new) from to before after
       (writing sink out_old) (writing sink out_new) status
 
   -- the call was made over the file that the words name, or there was no memory to open it; then the case and the sink are as they were
   abbrev pub OpensFor : (Done : O → O → Option (List ℕ) → Reading → Type 0) → (old new : O) → Type 0
   OpensFor Done old new =
-      IsStopped status ((case_new ≡ case_old) × (out_new ≡ out_old)) (IsAskedForFile opener.does words old new) ⊎ IsOver opener words old new Done
+      IsStopped status ((case_new ≡ case_old) × (out_new ≡ out_old)) (LacksMemoryForFile opener.does words old new) ⊎ IsOver opener words old new Done
 
   -- what is done for words that don't begin with `study`
   abbrev pub CallsRun : (old new : O) → Type 0

@@ -1,2 +1,2 @@
-pub mod Asks
+pub mod Requests
 pub mod Calls

@@ -10,6 +10,7 @@ ghost use Rattle.study_cli.specs.StudyOutcome.{ReadsCase as ReadsStudyCase};
 ghost use Rattle.program.specs.Calls.{MakesRun, MakesStudy};
 
 use crate::Opener;
+use answers::Stop;
 use command_words::asks_study;
 use field_core::{List, NoMemory};
 use graph_cli::run;
@@ -47,7 +48,7 @@ fn run_stored<O: Opener, S: Source, T: Source, W: Sink>(
                 opener.close_store(path, store);
                 status
             }
-            Err(NoMemory) => 8,
+            Err(NoMemory) => Stop::NoMemory.code(),
         },
     }
 }

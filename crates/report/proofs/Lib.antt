@@ -1,4 +1,3 @@
-pub mod Begun
 pub mod EvidenceNames
 pub mod FirstSets
 pub mod ListedLines

@@ -7,7 +7,7 @@
 //! - `weights_text`, `bounds_text` and `simes_text` return exactly the text of all sets in their order (`weights_report`,
 //!   `bounds_report`, `simes_report`).
 //! - `opened_text` returns the first piece of what `study` prints (`study_report`), and `put_taken`, `put_refused` and `put_shown`
-//!   append the others, one after another. When out of memory, a beginning of the piece may have been appended (`begun`).
+//!   append the others, one after another. When out of memory, the text stays as it was (`unchanged`).
 //! - Laws in `src/laws.rt`: each line of a decision, and each rejection of a look, is of a hypothesis of its case.
 #![tactic(auto)]
 

@@ -1,8 +1,7 @@
 //! Lines that several commands put.
-ghost use Rattle.std.specs.Prelude.{◌≡◌, ◌==◌, ◌<◌, ◌++◌, ℕ, Bool, OnOk, OnErr, length};
+ghost use Rattle.std.specs.Prelude.{◌≡◌, ◌==◌, ◌<◌, ◌++◌, ℕ, Bool, OnOk, length};
 ghost use Rattle.std.specs.Fmt.{decimal};
 ghost use Rattle.std.specs.List.{list_any};
-ghost use Rattle.field_core.specs.Texts.{IsBegun};
 ghost use Rattle.answers.specs.Lines.{line};
 ghost use Rattle.case_model.specs.CaseView.{content};
 ghost use Rattle.report.specs.Deciding.{Decides};
@@ -24,8 +23,7 @@ pub(crate) fn put_count(text: &mut List<u8>, words: &[u8], n: usize) -> Result<(
 /// Appends a space and the name of the hypothesis at a position.
 pub(crate) fn put_name(text: &mut List<u8>, case: &Case, j: usize) -> Result<(), NoMemory>
     requires { j < length (content case.now).names }
-    ensures put { OnOk result (text.new ≡ text.old ++ spaced_name (content case.now) j) }
-    ensures begun { OnErr result (IsBegun text.old text.new (spaced_name (content case.now) j)) }
+    ensures { OnOk result (text.new ≡ text.old ++ spaced_name (content case.now) j) }
 {
     text.push(b' ')?;
     text.append(case.name(j))
@@ -34,8 +32,7 @@ pub(crate) fn put_name(text: &mut List<u8>, case: &Case, j: usize) -> Result<(),
 /// Appends a space and the name of the hypothesis at a position if `is_put`, and else nothing.
 fn put_name_if(text: &mut List<u8>, case: &Case, j: usize, is_put: bool) -> Result<(), NoMemory>
     requires { j < length (content case.now).names }
-    ensures put { OnOk result (text.new ≡ text.old ++ name_if (content case.now) j is_put) }
-    ensures begun { OnErr result (IsBegun text.old text.new (name_if (content case.now) j is_put)) }
+    ensures { OnOk result (text.new ≡ text.old ++ name_if (content case.now) j is_put) }
 {
     if !is_put {
         return Ok(());
@@ -43,18 +40,15 @@ fn put_name_if(text: &mut List<u8>, case: &Case, j: usize, is_put: bool) -> Resu
     put_name(text, case, j)
 }
 
-/// Appends a space and the name of each hypothesis for which `test` is true, by ascending position. When out of memory, a
-/// beginning of this may have been appended.
+/// Appends a space and the name of each hypothesis for which `test` is true, by ascending position.
 pub(crate) fn put_names<T: Fn(usize) -> bool>(
     text: &mut List<u8>,
     case: &Case,
     test: T,
 ) -> Result<(), NoMemory>
     requires { (j : ℕ) → j < length (content case.now).names → T.pre test j }
-    ensures put { (f : ℕ → Bool) → Decides (length (content case.now).names) (T.post test) f
+    ensures { (f : ℕ → Bool) → Decides (length (content case.now).names) (T.post test) f
         → OnOk result (text.new ≡ text.old ++ names_where (content case.now) f) }
-    ensures begun { (f : ℕ → Bool) → Decides (length (content case.now).names) (T.post test) f
-        → OnErr result (IsBegun text.old text.new (names_where (content case.now) f)) }
 {
     for j in 0..case.size() {
         put_name_if(text, case, j, test(j))?;

@@ -1,7 +1,6 @@
 //! What the command `stages` prints.
-ghost use Rattle.std.specs.Prelude.{◌≡◌, ◌==◌, ◌<◌, ◌++◌, IfOk, OnOk, OnErr, length};
+ghost use Rattle.std.specs.Prelude.{◌≡◌, ◌==◌, ◌<◌, ◌++◌, IfOk, OnOk, length};
 ghost use Rattle.std.specs.List.{All, flat_map, list_any};
-ghost use Rattle.field_core.specs.Texts.{IsBegun};
 ghost use Rattle.case_model.specs.CaseView.{content};
 ghost use Rattle.staged_levels.specs.StudyAnswers.{IsStaged};
 ghost use Rattle.staged_levels.specs.Looks.{arrivals_of};
@@ -52,8 +51,7 @@ fn put_arrival(text: &mut List<u8>, case: &Case, arrival: &Arrival) -> Result<()
 #[tactic(auto, unfolding(crate::specs::StagesReport::reject_line))]
 fn put_rejection(text: &mut List<u8>, case: &Case, rejection: &Settled) -> Result<(), NoMemory>
     requires { rejection.now.hypothesis < length (content case.now).names }
-    ensures put { OnOk result (text.new ≡ text.old ++ reject_line (content case.now) rejection.now) }
-    ensures begun { OnErr result (IsBegun text.old text.new (reject_line (content case.now) rejection.now)) }
+    ensures { OnOk result (text.new ≡ text.old ++ reject_line (content case.now) rejection.now) }
 {
     text.append(b"reject")?;
     put_name(text, case, rejection.hypothesis)?;
@@ -71,8 +69,7 @@ pub(crate) fn put_rejections(
     look: &[Settled],
 ) -> Result<(), NoMemory>
     requires { AreRejectionsOf (content case.now) look.now }
-    ensures put { OnOk result (text.new ≡ text.old ++ flat_map (reject_line (content case.now)) look.now) }
-    ensures begun { OnErr result (IsBegun text.old text.new (flat_map (reject_line (content case.now)) look.now)) }
+    ensures { OnOk result (text.new ≡ text.old ++ flat_map (reject_line (content case.now)) look.now) }
 {
     for rejection in look {
         put_rejection(text, case, rejection)?;

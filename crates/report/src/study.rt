@@ -1,6 +1,5 @@
 //! What the command `study` prints.
 ghost use Rattle.std.specs.Prelude.{◌≡◌, ◌<◌, ◌++◌, IfOk, OnOk, OnErr, length};
-ghost use Rattle.field_core.specs.Texts.{IsBegun};
 ghost use Rattle.case_model.specs.CaseView.{content};
 ghost use Rattle.report.specs.TestReport.{names_where};
 ghost use Rattle.report.specs.StagesReport.{AreRejectionsOf};
@@ -27,8 +26,7 @@ use std::alloc::Global;
 #[tactic(auto, unfolding(crate::specs::StudyReport::look_line))]
 fn put_look(text: &mut List<u8>, case: &Case, look: &Look) -> Result<(), NoMemory>
     requires { look.now.hypothesis < length (content case.now).names }
-    ensures put { OnOk result (text.new ≡ text.old ++ look_line (content case.now) look.now) }
-    ensures begun { OnErr result (IsBegun text.old text.new (look_line (content case.now) look.now)) }
+    ensures { OnOk result (text.new ≡ text.old ++ look_line (content case.now) look.now) }
 {
     text.append(b"look")?;
     put_name(text, case, look.hypothesis as usize)?;
@@ -39,10 +37,10 @@ fn put_look(text: &mut List<u8>, case: &Case, look: &Look) -> Result<(), NoMemor
     text.push(b'\n')
 }
 
-/// Appends the lines of a look that was taken, and of the rejections that it brings. When out of memory, a beginning of the lines
-/// may have been appended.
+/// Appends the lines of a look that was taken, and of the rejections that it brings. When out of memory, the text stays as it was.
 #[tactic(auto, unfolding(crate::specs::StudyReport::taken_lines))]
 pub fn put_taken(
+    alloc: Global,
     text: &mut List<u8>,
     case: &Case,
     look: &Look,
@@ -51,10 +49,12 @@ pub fn put_taken(
     requires below { look.now.hypothesis < length (content case.now).names }
     requires rejections { AreRejectionsOf (content case.now) rejections.now }
     ensures put { OnOk result (text.new ≡ text.old ++ taken_lines (content case.now) look.now rejections.now) }
-    ensures begun { OnErr result (IsBegun text.old text.new (taken_lines (content case.now) look.now rejections.now)) }
+    ensures unchanged { OnErr result (text.new ≡ text.old) }
 {
-    put_look(text, case, look)?;
-    put_rejections(text, case, rejections)
+    let mut lines = List::new(alloc);
+    put_look(&mut lines, case, look)?;
+    put_rejections(&mut lines, case, rejections)?;
+    text.append(lines.as_slice())
 }
 
 /// Returns the word for why an arrival is refused, and an empty one if the fault isn't that of an arrival.
@@ -69,45 +69,54 @@ fn refusal_word(fault: &StepFault) -> &'static [u8]
     }
 }
 
-/// Appends the line that the command with this number, from 1, requested a look that is refused. When out of memory, a beginning
-/// of the line may have been appended.
+/// Appends the line that the command with this number, from 1, requested a look that is refused. When out of memory, the text
+/// stays as it was.
 #[tactic(auto, unfolding(crate::specs::StudyReport::refused_line))]
-pub fn put_refused(text: &mut List<u8>, number: usize, fault: &StepFault) -> Result<(), NoMemory>
+pub fn put_refused(
+    alloc: Global,
+    text: &mut List<u8>,
+    number: usize,
+    fault: &StepFault,
+) -> Result<(), NoMemory>
     ensures put { OnOk result (text.new ≡ text.old ++ refused_line number fault.now) }
-    ensures begun { OnErr result (IsBegun text.old text.new (refused_line number fault.now)) }
+    ensures unchanged { OnErr result (text.new ≡ text.old) }
 {
-    text.append(b"refused ")?;
-    text.append_unsigned(number as u128)?;
-    text.append(b": ")?;
-    text.append(refusal_word(fault))?;
-    text.push(b'\n')
+    let mut line = List::new(alloc);
+    line.append(b"refused ")?;
+    line.append_unsigned(number as u128)?;
+    line.append(b": ")?;
+    line.append(refusal_word(fault))?;
+    line.push(b'\n')?;
+    text.append(line.as_slice())
 }
 
 /// Appends the names of the rejected hypotheses.
 fn put_names_among(text: &mut List<u8>, case: &Case, rejections: &[Settled]) -> Result<(), NoMemory>
-    ensures put { OnOk result (text.new ≡ text.old ++ names_where (content case.now) (among rejections.now)) }
-    ensures begun { OnErr result (IsBegun text.old text.new (names_where (content case.now) (among rejections.now))) }
+    ensures { OnOk result (text.new ≡ text.old ++ names_where (content case.now) (among rejections.now)) }
 {
     put_names(text, case, |j| is_among(rejections, j))
 }
 
-/// Appends the line of how many looks have arrived, and of the names of the rejected hypotheses. When out of memory, a beginning
-/// of the line may have been appended.
+/// Appends the line of how many looks have arrived, and of the names of the rejected hypotheses. When out of memory, the text stays
+/// as it was.
 #[tactic(auto, unfolding(crate::specs::StudyReport::shown_line))]
 pub fn put_shown(
+    alloc: Global,
     text: &mut List<u8>,
     case: &Case,
     looks: usize,
     rejections: &[Settled],
 ) -> Result<(), NoMemory>
     ensures put { OnOk result (text.new ≡ text.old ++ shown_line (content case.now) looks rejections.now) }
-    ensures begun { OnErr result (IsBegun text.old text.new (shown_line (content case.now) looks rejections.now)) }
+    ensures unchanged { OnErr result (text.new ≡ text.old) }
 {
-    text.append(b"show looks ")?;
-    text.append_unsigned(looks as u128)?;
-    text.append(b" rejected")?;
-    put_names_among(text, case, rejections)?;
-    text.push(b'\n')
+    let mut line = List::new(alloc);
+    line.append(b"show looks ")?;
+    line.append_unsigned(looks as u128)?;
+    line.append(b" rejected")?;
+    put_names_among(&mut line, case, rejections)?;
+    line.push(b'\n')?;
+    text.append(line.as_slice())
 }
 
 /// Returns the lines before the replies, or `NoMemory`: the level, and the number of looks that the keeper had before.

@@ -19,10 +19,10 @@ ghost use Rattle.report.specs.TestReport.{
 
 use crate::lines::{put_alpha, put_name, put_rejected};
 use adjusted_p::Adjusted;
-use case_model::{Case, Inputs};
+use case_model::Case;
 use field_core::{List, NoMemory};
 use fraction::Fraction;
-use sequential::{Decision, KeptLine, StepLine};
+use sequential::{Decision, KeptLine, StepLine, single_p_values};
 use std::alloc::Global;
 
 /// Returns the p-value of the hypothesis at a position.
@@ -31,10 +31,7 @@ fn p_value(case: &Case, j: usize) -> Fraction
     requires below { j < length (content case.now).names }
     ensures { result ≡ ratio_at (p_values (content case.now).inputs) j }
 {
-    match case.inputs() {
-        Inputs::Single(p_values) => p_values.as_slice()[j],
-        _ => unreachable!(),
-    }
+    single_p_values(case)[j]
 }
 
 /// Appends the name of a hypothesis, its p-value and its weight.

@@ -21,9 +21,9 @@ use Rattle.report.specs.StudyReport.{Reply, reply_lines, opened_lines, study_rep
 use Rattle.staged_levels.specs.Studies.{StudyState, start}
 use Rattle.study_cli.specs.declared.command.StudyCommand.{StudyCommand}
 use Rattle.study_register.specs.declared.fault.RegisterFault.{RegisterFault}
-use Rattle.study_register.specs.declared.fault.RegisterFault.TheVariants.{BadLook, Wide, Fault, NoMemory}
+use Rattle.study_register.specs.declared.fault.RegisterFault.TheVariants.{BadLook, Wide, Fault}
 use Rattle.study_register.specs.Looking.{arrival_of, arrivals_of, AreTaken}
-use Rattle.study_register.specs.RegisterFaults.{OnLooks, IsRegisterFault, IfLooksRefused, IfAsked}
+use Rattle.study_register.specs.RegisterFaults.{OnLooks, IsRegisterFault}
 use Rattle.study_register.proofs.TakenLooks.{follows_values}
 use Rattle.study_cli.specs.Replies.{looks_taken, AreReplies, IsFirstBreak, MayTake}
 use Rattle.answers.specs.declared.stop.Stop.{Stop}
@@ -72,20 +72,7 @@ module _ (c : Content) (kept : Option (List Look)) (rose : Type 0) where
       → r ≡ wide_refusal c.names (AfterLook n) w → (on_looks kept (opened c)).Refuses r
   wide_look_told why n w r is h e = wide_look_refused n w r (subst (IsRegisterFault c kept rose) is h) e
 
--- nothing failed where kept looks are refused
-pub clean_by_look : (P : Type 0) (why : RegisterFault) (n : ℕ) (l : Look) → why ≡ BadLook n l → IfLooksRefused P why → P
-clean_by_look P why n l is h = subst (IfLooksRefused P) is h
-
-pub clean_by_wide : (P : Type 0) (why : RegisterFault) (n : ℕ) (w : WideAt) → why ≡ Wide n w → IfLooksRefused P why → P
-clean_by_wide P why n w is h = subst (IfLooksRefused P) is h
-
-pub clean_by_memory : (P : Type 0) (why : RegisterFault) → why ≡ NoMemory → IfLooksRefused P why → P
-clean_by_memory P why is h = subst (IfLooksRefused P) is h
-
--- the keeper was called where it failed
-pub asked_by : (P : Type 0) (why : RegisterFault) → why ≡ Fault → IfAsked P why → P
-asked_by P why is h = subst (IfAsked P) is h
-
+-- the keeper's fault, after a defined opening
 pub rose_by : (c : Content) (kept : Option (List Look)) (rose : Type 0) (why : RegisterFault) → why ≡ Fault → IsRegisterFault c kept rose why
     → HasOpening c × rose
 rose_by c kept rose why is h = subst (IsRegisterFault c kept rose) is h
@@ -169,7 +156,7 @@ module _ (c : Content) (commands : List StudyCommand) (looks : List Look) (s : S
       → HoldSome (λ more. MayKeep c commands kept more × IsLastFailed start later more) kept held
   look_failed h = record { more = h.more; may = (may_keep h.more h.may.0, inr (omega (arith, once, h.may.1))); held_is = h.held_is }
 
--- no look is kept also
+-- no look is added
 pub none_kept : (c : Content) (commands : List StudyCommand) (kept held : Option (List Look)) → held ≡ kept → HoldSome (MayKeep c commands kept) kept held
 none_kept c commands kept held e = record { more = []; may = inl refl; held_is = e ∙ sym (with_none kept) }
 

@@ -21,13 +21,13 @@ use Rattle.study_cli.specs.declared.command.StudyCommand.{StudyCommand}
 use Rattle.study_cli.specs.declared.command.StudyCommand.TheVariants.{Take, Show}
 use Rattle.study_cli.specs.CommandLines.{IsBelow}
 use Rattle.study_register.specs.Looking.{arrival_of, Takes}
-use Rattle.study_register.specs.RegisterFaults.{IsAddFault, IfRefused, IfMemory, turns_by}
+use Rattle.study_register.specs.RegisterFaults.{IsAddFault, turns_by}
 use Rattle.study_register.specs.declared.fault.AddFault.{AddFault}
 use Rattle.study_register.specs.declared.fault.AddFault.TheVariants as additions
 use Rattle.study_cli.specs.declared.replying.CommandStop.{CommandStop}
 use Rattle.study_cli.specs.declared.replying.CommandStop.TheVariants.{Wide, Fault, NoMemory}
 use Rattle.study_cli.specs.Replies.{taken_in, looks_taken, IsReply, AreReplies, IsFirstBreak, MayTake}
-use Rattle.study_cli.specs.AnswerView.{with_looks, IsRepliedTo, AreRepliedTo, HoldSome, StopsCommands, IfBroken}
+use Rattle.study_cli.specs.AnswerView.{with_looks, IsRepliedTo, AreRepliedTo, HoldSome, StopsCommands}
 use Rattle.study_cli.proofs.Looks.{with_none, with_one, with_more}
 
 -- ---- additions
@@ -54,12 +54,6 @@ added_failed c s l rose e h a = let failed : IsAddFault c s l rose additions.Fau
 pub added_wide : (c : Content) (s : StudyState) (l : Look) (rose : Type 0) (e : AddFault) (w : WideAt) → e ≡ additions.Wide w → IsAddFault c s l rose e
     → IsWideLook c s (arrival_of l) w
 added_wide c s l rose e w h a = subst (IsAddFault c s l rose) h a
-
-pub left_refused : (P : Type 0) (e : AddFault) (f : StepFault) → e ≡ additions.Refused f → IfRefused P e → P
-left_refused P e f h s = subst (IfRefused P) h s
-
-pub left_memory : (P : Type 0) (e : AddFault) → e ≡ additions.NoMemory → IfMemory P e → P
-left_memory P e h s = subst (IfMemory P) h s
 
 -- ---- the rejections that a look brings
 
@@ -141,14 +135,6 @@ module _ (c : Content) (n : ℕ) (old : StudyState) (kept : Option (List Look)) 
 
 -- ---- commands that stop part way
 
-pub broken_weaker : (stop : CommandStop) (P Q : Type 0) → (P → Q) → IfBroken P stop → IfBroken Q stop
-broken_weaker (Wide place w) P Q f h = f h
-broken_weaker Fault P Q f h = tt
-broken_weaker NoMemory P Q f h = f h
-
-pub broken_by : (stop : CommandStop) (place : ℕ) (w : WideAt) (P : Type 0) → stop ≡ Wide place w → IfBroken P stop → P
-broken_by stop place w P e h = subst (IfBroken P) e h
-
 pub first_broken : (c : Content) (old : StudyState) (commands : List StudyCommand) (kept held : Option (List Look)) (before now : ℕ) (rose : Type 0)
     (stop : CommandStop) (place : ℕ) (w : WideAt) → stop ≡ Wide place w → StopsCommands c rose 1 old commands kept held before now stop
     → HoldSome (λ looks. IsFirstBreak c 1 old commands looks place w × (now ≡ before + length looks)) kept held
@@ -202,7 +188,7 @@ one_behind c old commands n mid new left rest replies x r e is b = record {
     one_more looks = ap (λ ls. ls ++ looks) (taken_append replies (r ∷ []) ∙ ap (λ ls. looks_taken replies ++ ls) (append-nil (taken_in r)))
         ∙ append_assoc (looks_taken replies) (taken_in r) looks
 
--- So far commands have been replied to: the replies are written, and the looks that were taken are kept also.
+-- So far commands have been replied to: the replies are written, and the looks that were taken are added.
 pub record AreSoFar (c : Content) (old : StudyState) (commands : List StudyCommand) (n : ℕ) (mid : StudyState) (left : List StudyCommand)
     (kept held : Option (List Look)) (before now : ℕ) (text written : List ℕ) : Type 0 where
   pub replies : List Reply

@@ -1,5 +1,5 @@
 -- Replies and ends as contracts see them, with the looks that a keeper holds.
-use Rattle.std.specs.Prelude.{◌≡◌, ◌+◌, ◌++◌, ◌⊎◌, ℕ, List, [], length, IfSome, Option, Some, None, Result, Ok, Err}
+use Rattle.std.specs.Prelude.{◌≡◌, ◌+◌, ◌++◌, ◌⊎◌, ℕ, List, [], length, IfSome, Option, Some, None}
 use Rattle.std.specs.List.{flat_map}
 use Rattle.graph_io.specs.Causes.{Rose}
 use Rattle.graph_io.specs.declared.keeper.Look.{Look}
@@ -20,7 +20,7 @@ abbrev pub with_looks : Option (List Look) → List Look → Option (List Look)
 with_looks None more = None
 with_looks (Some looks) more = Some (looks ++ more)
 
--- A command was replied to, and the reply was written. A look that was taken is kept also, by the one call of the keeper; no other is made.
+-- A command was replied to, and the reply was written. A look that was taken is added, by the one call of the keeper; no other is made.
 pub record IsRepliedTo (c : Content) (n : ℕ) (old : StudyState) (command : StudyCommand)
     (kept held : Option (List Look)) (before now : ℕ) (text written : List ℕ) (new : StudyState) : Type 0 where
   pub reply : Reply
@@ -48,14 +48,14 @@ abbrev pub RepliesToAll : Content → StudyState → List StudyCommand → (befo
 RepliesToAll c old commands before now text written new =
     AreRepliedTo c old commands before.looks now.looks before.calls now.calls text written new
 
--- looks are kept also that may have been taken if the call stopped part way
+-- looks are added that may have been taken if the call stopped part way
 pub record HoldSome (May : List Look → Type 0) (kept held : Option (List Look)) : Type 0 where
   pub more : List Look
   pub may : May more
   pub held_is : held ≡ with_looks kept more
 
 -- Why commands aren't replied to, the first of which has this number. `before` and `now` count the calls of the keeper: one for each look that is
--- kept also, and the one that failed.
+-- added, and the one that failed.
 abbrev pub StopsCommands : Content → Type 0 → ℕ → StudyState → List StudyCommand
     → (kept held : Option (List Look)) → (before now : ℕ) → CommandStop → Type 0
 StopsCommands c rose n old commands kept held before now (Wide place w) =
@@ -69,25 +69,14 @@ abbrev pub StopsOver : Content → ℕ → StudyState → List StudyCommand → 
 StopsOver c n old commands before now stop =
     StopsCommands c (Rose before.faults now.faults) n old commands before.looks now.looks before.calls now.calls stop
 
--- a fact if the keeper had no fault: a command stops part way, or memory was exhausted
-abbrev pub IfBroken : Type 0 → CommandStop → Type 0
-IfBroken p (Wide place w) = p
-IfBroken p Fault = Unit {0}
-IfBroken p NoMemory = p
-
--- a fact if the keeper had no fault
-abbrev pub IfFaultless : Type 0 → Result (Unit {0}) CommandStop → Type 0
-IfFaultless p (Ok x) = p
-IfFaultless p (Err stop) = IfBroken p stop
-
--- An answer that is required, and its looks are kept also. The keeper was called once to load its looks, and once for each look that is kept also.
+-- An answer that is required, and its looks are added. The keeper was called once to load its looks, and once for each look that is added.
 pub record KeepWith (Gives : StudyEnd → Type 0) (kept held : Option (List Look)) (before now : ℕ) (answer : Answer) : Type 0 where
   pub more : List Look
   pub given : Gives (record { answer = answer; looks = more })
   pub held_is : held ≡ with_looks kept more
   pub calls_are : now ≡ before + (1 + length more)
 
--- The last call of a keeper failed. It is the one that loads its looks, or it comes after that and after one for each look that is kept also.
+-- The last call of a keeper failed. It is the one that loads its looks, or it comes after that and after one for each look that is added.
 abbrev pub IsLastFailed : (before now : ℕ) → List Look → Type 0
 IsLastFailed before now more = ((more ≡ []) × (now ≡ before + 1)) ⊎ (now ≡ before + (2 + length more))
 
@@ -99,6 +88,6 @@ pub record MayTakeBehind (c : Content) (commands : List StudyCommand) (kept : Op
   pub opened : AreTaken c looks start
   pub may : MayTake c 1 start commands more
 
--- the looks that may be kept also if a call stops part way: none, or those that the commands before some place take
+-- the looks that may be added if a call stops part way: none, or those that the commands before some place take
 abbrev pub MayKeep : Content → List StudyCommand → Option (List Look) → List Look → Type 0
 MayKeep c commands kept more = (more ≡ []) ⊎ MayTakeBehind c commands kept more

@@ -1,4 +1,4 @@
--- The first line of a text that says no command, and what is wrong with it.
+-- The first line of a text that denotes no command, and what is wrong with it.
 use Rattle.std.specs.Prelude.{◌≡◌, ℕ, List, Err}
 use Rattle.edge_text.specs.declared.fault.LineKind.{LineKind}
 use Rattle.text_lines.specs.Faults.{FaultAt}
@@ -6,7 +6,7 @@ use Rattle.study_cli.specs.Commands.{commands_of}
 use Rattle.study_cli.specs.declared.fault.CommandsFault.{CommandsFault}
 use Rattle.study_cli.specs.declared.fault.CommandsFault.TheVariants.{Line}
 
--- the first line of a text that says no command, counted from 1 over all lines, and what is wrong with it
+-- the first line of a text that denotes no command, counted from 1 over all lines, and what is wrong with it
 abbrev pub IsFirstFault : List (List ℕ) → List ℕ → ℕ → LineKind → Type 0
 IsFirstFault names bytes number kind = commands_of names bytes ≡ Err (record { line = number; kind = kind })
 

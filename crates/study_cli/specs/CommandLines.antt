@@ -21,7 +21,7 @@ IsLookLine names line look = IsLineOf (codes "look") line (λ words. IsArrival n
 abbrev pub IsShowLine : List ℕ → Type 0
 IsShowLine line = words_of line ≡ codes "show" ∷ []
 
--- the line says this command, for hypotheses of these names
+-- the line denotes this command, for hypotheses of these names
 abbrev pub IsCommandLine : List (List ℕ) → List ℕ → StudyCommand → Type 0
 IsCommandLine names line (Take look) = IsLookLine names line look
 IsCommandLine names line Show = IsShowLine line

@@ -31,7 +31,7 @@ use Rattle.study_cli.specs.StudyStages.{StudyEnd, HasOpening, study_stage, on_lo
 unfoldable pub study_needs : Needs
 study_needs = record { kind = Awaited; most = 64 }
 
--- the commands that a text denotes for a case, or the first line that says none
+-- the commands that a text denotes for a case, or the first line that denotes none
 abbrev pub commands_in : Content → List ℕ → Stage Refusal (List StudyCommand)
 commands_in c bytes = record {
   Gives = λ commands. AreCommands c.names bytes commands;
@@ -42,7 +42,7 @@ commands_in c bytes = record {
 abbrev pub case_of : StudyAsked → Option (List ℕ) → Stage Refusal Content
 case_of asked case = accepted asked.format study_needs case
 
--- the commands that a source says for a case
+-- the commands that a source denotes for a case
 abbrev pub commands_from : Content → Option (List ℕ) → Stage Refusal (List StudyCommand)
 commands_from c commands = and_then (on_bytes commands (within (codes "commands "))) (commands_in c)
 
@@ -66,7 +66,7 @@ IsUnstudied asked case = (r : Refusal) × (case_of asked case).Refuses r
 abbrev pub IsCommanded : StudyAsked → Option (List ℕ) → Option (List ℕ) → Type 0
 IsCommanded asked case commands = (c : Content) × (case_of asked case).Gives c × (list : List StudyCommand) × (commands_from c commands).Gives list
 
--- also, the looks that may be kept if the call stops part way
+-- also, the looks that may be added if the call stops part way
 abbrev pub MayBeKept : StudyAsked → Option (List ℕ) → Option (List ℕ) → Option (List Look) → List Look → Type 0
 MayBeKept asked case commands kept more =
     (more ≡ []) ⊎ ((c : Content) × (case_of asked case).Gives c × (list : List StudyCommand)
@@ -107,7 +107,7 @@ ReadRose words case case_rose commands_rose = (ReadsCase words × case_rose) ⊎
 abbrev pub KeeperRose : List (List ℕ) → Option (List ℕ) → Option (List ℕ) → Type 0 → Type 0
 KeeperRose words case commands rose = (asked : StudyAsked) × AskStudy words asked × IsOpened asked case commands × rose
 
--- the looks that may be kept also if a call with these words stops part way
+-- the looks that may be added if a call with these words stops part way
 abbrev pub MayEnd : List (List ℕ) → Option (List ℕ) → Option (List ℕ) → Option (List Look) → List Look → Type 0
 MayEnd words case commands kept more = (more ≡ []) ⊎ ((asked : StudyAsked) × AskStudy words asked × MayBeKept asked case commands kept more)
 

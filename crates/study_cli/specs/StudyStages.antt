@@ -21,7 +21,7 @@ use Rattle.study_register.specs.Looking.{AreTaken}
 use Rattle.study_register.specs.RegisterFaults.{IsStopped}
 use Rattle.study_cli.specs.Replies.{looks_taken, AreReplies, IsFirstBreak}
 
--- How the commands of a study end: what is answered, and the looks that are kept also.
+-- How the commands of a study end: what is answered, and the looks that are added.
 pub record StudyEnd : Type 0 where
   pub answer : Answer
   pub looks : List Look

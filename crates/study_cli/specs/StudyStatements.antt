@@ -66,8 +66,8 @@ TakenLooksAreFirst =
     ⊎ ((place : ℕ) × (w : WideAt) × IsFirstBreak c 1 s commands all place w)
     → (more : List Look) × (all ≡ some ++ more)
 
--- words, the bytes of a case and of commands, and kept looks have at most one outcome. It is one answer with the looks that are kept in addition, or
--- one refusal, and not both
+-- words, the bytes of a case and of commands, and kept looks have at most one outcome. It is one answer with the looks that are added, or one
+-- refusal, and not both
 abbrev pub StudiesHaveOneOutcome : Type 0
 StudiesHaveOneOutcome = (words : List (List ℕ)) (case commands : List ℕ) (looks : List Look)
     → IsDecided (study_outcome words (Some case) (Some commands) (Some looks))

@@ -5,7 +5,7 @@ use field_core::NoMemory;
 /// Why a text denotes no commands.
 #[derive(Clone, Copy, PartialEq, Eq, Debug)]
 pub enum CommandsFault {
-    /// The first line that says no command, counted from 1 over all lines, and what is wrong with it.
+    /// The first line that denotes no command, counted from 1 over all lines, and what is wrong with it.
     Line(usize, LineKind),
     /// Out of memory.
     NoMemory,

@@ -10,7 +10,7 @@ ghost use Rattle.study_cli.specs.StudyStatements.{
 };
 ghost use Rattle.study_cli.specs.CommandStatements.{CommandsAreOfLines, FaultsAreBadLines, FaultsAreFirst};
 
-/// Kept looks and commands have one end: one answer with the looks that are kept also, or one refusal, and not both.
+/// Kept looks and commands have one end: one answer with the looks that are added, or one refusal, and not both.
 pub fn studies_have_one_end()
     ensures { StudiesHaveOneEnd }
 {}
@@ -23,7 +23,7 @@ pub fn kept_looks_decide()
     ensures end { KeptLooksDecide }
 {}
 
-/// If commands stop part way, the looks that are kept also are the first of those that all of them take.
+/// If commands stop part way, the looks that are added are the first of those that all of them take.
 pub fn taken_looks_are_first()
     ensures { TakenLooksAreFirst }
 {}
@@ -37,7 +37,7 @@ pub fn commands_are_read_by_lines()
 {}
 
 /// Words, the bytes of a case and of commands, and kept looks have at most one outcome. It is one answer with the looks that
-/// are kept in addition, or one refusal, and not both.
+/// are added, or one refusal, and not both.
 pub fn studies_have_one_outcome()
     ensures { StudiesHaveOneOutcome }
 {}

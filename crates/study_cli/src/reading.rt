@@ -28,7 +28,7 @@ fn read(alloc: Global, case: &Case, bytes: &[u8]) -> Result<List<StudyCommand>, 
     Ok(commands)
 }
 
-/// Returns the commands that a text denotes for a case, or the first line that says none, or `NoMemory`.
+/// Returns the commands that a text denotes for a case, or the first line that denotes none, or `NoMemory`.
 ///
 /// Words and lines are those of `text_lines`. A line is `look NAME K N`, the name of a hypothesis, the number of a stage in 1 to 9
 /// digits and a numeral, or `show`. Within a line the first word is tested first, then the number of words, then what follows

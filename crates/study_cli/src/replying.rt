@@ -1,5 +1,5 @@
 //! Replies to commands, one by one.
-ghost use Rattle.std.specs.Prelude.{◌≡◌, ◌≤◌, ◌<◌, ◌+◌, [], ◌∷◌, OnOk, IfErr, false, length};
+ghost use Rattle.std.specs.Prelude.{◌≡◌, ◌≢◌, ◌≤◌, ◌<◌, ◌+◌, [], ◌∷◌, Err, OnOk, IfErr, false, length};
 ghost use Rattle.std.specs.List.{AllByRecursion};
 ghost use Rattle.answers.specs.Devices.{keeping};
 ghost use Rattle.case_model.specs.CaseView.{content};
@@ -8,11 +8,11 @@ ghost use Rattle.study_cli.specs.CommandLines.{IsBelow};
 ghost use Rattle.study_cli.specs.Asking.{asks, looks_asked};
 ghost use Rattle.study_cli.specs.declared.command.StudyCommand.TheVariants.{Take as AskTake};
 ghost use Rattle.study_register.specs.RegisterView.{study_in, looks_in, is_spent};
-ghost use Rattle.study_cli.specs.AnswerView.{RepliesTo, RepliesToAll, StopsOver, IfFaultless};
+ghost use Rattle.study_cli.specs.AnswerView.{RepliesTo, RepliesToAll, StopsOver};
 
 use crate::command::StudyCommand;
 use case_model::Case;
-use field_core::{List, WideAt};
+use field_core::{List, NoMemory, WideAt};
 use graph_io::{Keeper, Look};
 use report::{put_refused, put_shown, put_taken};
 use staged_levels::behind;
@@ -28,6 +28,17 @@ pub(crate) enum CommandStop {
     Fault,
     /// Out of memory.
     NoMemory,
+}
+
+impl From<NoMemory> for CommandStop {
+    ghost use Rattle.std.specs.Prelude.{◌≡◌};
+    ghost use Rattle.study_cli.specs.declared.replying.CommandStop.TheVariants.{NoMemory};
+
+    ghost from_gives = { λ _ stop. stop ≡ NoMemory };
+
+    fn from(_: NoMemory) -> CommandStop {
+        CommandStop::NoMemory
+    }
 }
 
 /// Replies to the command of this number, which asks for a look.
@@ -50,20 +61,17 @@ fn take<K: Keeper>(
         (keeping K.Keeper keeper.old) (keeping K.Keeper keeper.new)) }
     ensures fresh { OnOk result (is_spent register.new ≡ false) }
     ensures later { K.faults keeper.old ≤ K.faults keeper.new }
-    ensures counted { IfFaultless (K.faults keeper.new ≡ K.faults keeper.old) result }
+    ensures counted { result ≢ Err CommandStop.Fault → K.faults keeper.new ≡ K.faults keeper.old }
     ensures turns { K.calls keeper.new ≤ K.calls keeper.old + 1 }
 {
     let before = register.settled().len();
     let place = register.next_place();
     match register.add(alloc, keeper, look) {
-        Ok(()) => match put_taken(text, case, look, behind(register.settled(), before)) {
-            Ok(()) => Ok(()),
-            Err(_) => Err(CommandStop::NoMemory),
-        },
-        Err(AddFault::Refused(fault)) => match put_refused(text, number, &fault) {
-            Ok(()) => Ok(()),
-            Err(_) => Err(CommandStop::NoMemory),
-        },
+        Ok(()) => {
+            let rejections = behind(register.settled(), before);
+            Ok(put_taken(alloc, text, case, look, rejections)?)
+        }
+        Err(AddFault::Refused(fault)) => Ok(put_refused(alloc, text, number, &fault)?),
         Err(AddFault::Wide(wide)) => Err(CommandStop::Wide(place, wide)),
         Err(AddFault::Fault) => Err(CommandStop::Fault),
         Err(AddFault::NoMemory) => Err(CommandStop::NoMemory),
@@ -90,17 +98,18 @@ fn reply<K: Keeper>(
         (keeping K.Keeper keeper.old) (keeping K.Keeper keeper.new)) }
     ensures fresh { OnOk result (is_spent register.new ≡ false) }
     ensures later { K.faults keeper.old ≤ K.faults keeper.new }
-    ensures counted { IfFaultless (K.faults keeper.new ≡ K.faults keeper.old) result }
+    ensures counted { result ≢ Err CommandStop.Fault → K.faults keeper.new ≡ K.faults keeper.old }
     ensures turns { K.calls keeper.new ≤ K.calls keeper.old + asks command.now }
 {
     match command {
         StudyCommand::Take(look) => take(alloc, case, register, keeper, number, look, text),
-        StudyCommand::Show => {
-            match put_shown(text, case, register.count(), register.settled()) {
-                Ok(()) => Ok(()),
-                Err(_) => Err(CommandStop::NoMemory),
-            }
-        }
+        StudyCommand::Show => Ok(put_shown(
+            alloc,
+            text,
+            case,
+            register.count(),
+            register.settled(),
+        )?),
     }
 }
 
@@ -121,13 +130,11 @@ pub(crate) fn replies<K: Keeper>(
     ensures stopped { IfErr result (StopsOver (content case.now) 1 (looks_in register.old) commands.now
         (keeping K.Keeper keeper.old) (keeping K.Keeper keeper.new)) }
     ensures later { K.faults keeper.old ≤ K.faults keeper.new }
-    ensures counted { IfFaultless (K.faults keeper.new ≡ K.faults keeper.old) result }
+    ensures counted { result ≢ Err CommandStop.Fault → K.faults keeper.new ≡ K.faults keeper.old }
     ensures turns { K.calls keeper.new ≤ K.calls keeper.old + looks_asked commands.now }
 {
     for i in 0..commands.len() {
-        if let Err(stop) = reply(alloc, case, register, keeper, i + 1, &commands[i], text) {
-            return Err(stop);
-        }
+        reply(alloc, case, register, keeper, i + 1, &commands[i], text)?;
     }
     Ok(())
 }

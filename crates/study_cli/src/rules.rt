@@ -1,4 +1,4 @@
-//! What the words of a line say.
+//! Commands as the words of a line denote them.
 ghost use Rattle.std.specs.Prelude.{◌≡◌};
 ghost use Rattle.field_core.specs.Answers.{told_as};
 ghost use Rattle.case_model.specs.CaseView.{content};
@@ -40,7 +40,7 @@ fn whole(line: &Line, word: &[u8]) -> Result<u32, CommandsFault>
     }
 }
 
-/// Returns the look that the words after `look` say, of a hypothesis of the case.
+/// Returns the look that the words after `look` denote, of a hypothesis of the case.
 fn look(line: &Line, words: Words, case: &Case) -> Result<StudyCommand, CommandsFault>
     ensures { result ≡ told_as (faults.Line line.now.number) (look (content case.now).names (words_of words.entry)) }
 {
@@ -69,7 +69,7 @@ fn show(line: &Line, mut words: Words) -> Result<StudyCommand, CommandsFault>
     }
 }
 
-/// Returns the command that a line says.
+/// Returns the command that a line denotes.
 pub fn command(line: &Line, case: &Case) -> Result<StudyCommand, CommandsFault>
     ensures { result ≡ told_as (faults.Line line.now.number) (expected kinds (command (content case.now).names line.now.text.now)) }
 {

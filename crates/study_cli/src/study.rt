@@ -117,20 +117,27 @@ fn answer<S: Source, T: Source, K: Keeper>(
     }
 }
 
-/// Makes a call of the program whose first word is `study`: all that it does. `words` are the words after the program's name,
-/// `case` is standard input, and `commands` is the file that `file_word` names. `keeper` keeps the looks. `out` gets the text
-/// of the answer, or one line that says why there is none. A source that isn't read stays as it was. `commands` is read only
-/// after a case that a study can take, and then before anything is answered. `keeper` is asked only after all commands are
-/// accepted. Of a source that isn't read to its end, at most one byte more than it may have is taken. The calls of `keeper`
-/// are at most one more than the looks that the commands ask for.
+/// Makes a call of the program whose first word is `study`, and does all that the call does.
 ///
-/// First the looks that are kept are taken in their order. Then each command is replied to: a look that is taken is kept, and
-/// one that is refused changes nothing.
+/// - `words` are the words after the program's name, `case` is standard input, `commands` is the file that `file_word` names, and
+///   `keeper` keeps the looks.
+/// - `out` gets the text of the answer, or one line that names the reason why there is none.
+/// - A source that isn't read stays as it was. `commands` is read only after a case that a study can take, and then before
+///   anything is answered. `keeper` is asked only after all commands are accepted.
+/// - An input may have at most 4194304 bytes. If a source isn't read to its end, at most one byte more than that is taken from it.
+/// - First the kept looks are taken in their order, and then each command is replied to. A look that is taken is kept, and one
+///   that is refused changes nothing. The calls of `keeper` are at most one more than the looks that the commands ask for.
 ///
-/// Statuses: 0 done; 2 the words aren't accepted. 3: the case, the commands or a kept look are malformed, or the case is not
-/// one of stages without arrivals. 4: an input is past a limit. 5: a number of the case, of its opening or of the settling
-/// after a look is too wide. 6: a source that is read had a fault. 7: `out` had a fault. 8: out of memory. 9: the keeper had a
-/// fault, after a case whose opening is defined.
+/// Statuses:
+/// - 0: done
+/// - 2: the words aren't accepted
+/// - 3: the case, the commands or a kept look are malformed, or the case isn't one of stages without arrivals
+/// - 4: an input is past a limit
+/// - 5: a number of the case, of its opening or of the settling after a look is too wide
+/// - 6: a source that is read had a fault
+/// - 7: `out` had a fault
+/// - 8: out of memory
+/// - 9: the keeper had a fault, after a case whose opening is defined
 pub fn run_study<S: Source, T: Source, K: Keeper, W: Sink>(
     alloc: Global,
     words: &[String],

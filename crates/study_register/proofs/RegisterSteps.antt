@@ -8,8 +8,6 @@ use Rattle.graph_io.specs.declared.keeper.Look.{Look}
 use Rattle.graph_io.specs.declared.keeper.KeeperFault.{KeeperFault}
 use Rattle.graph_io.specs.declared.keeper.KeeperFault.TheVariants as keepers
 use Rattle.case_model.specs.Content.{Content}
-use Rattle.entangled.specs.OpenFaults.{OpenFault}
-use Rattle.field_core.specs.declared.fault.Fault.TheVariants as openings
 use Rattle.staged_levels.specs.Studies.{StudyState, start}
 use Rattle.staged_levels.specs.StudyContents.{StudyContent, IsStudy}
 use Rattle.staged_levels.specs.Looks.{IsDefined}
@@ -18,8 +16,8 @@ use Rattle.study_register.specs.declared.fault.RegisterFault.{RegisterFault}
 use Rattle.study_register.specs.declared.fault.RegisterFault.TheVariants.{BadLook, Wide, Fault, NoMemory}
 use Rattle.study_register.specs.declared.fault.AddFault.{AddFault}
 use Rattle.study_register.specs.Looking.{Takes}
-use Rattle.study_register.specs.RegisterFaults.{IsFirstStop, IsStopped, IsRegisterFault, IsAddFault, IfLooksRefused, IfAsked, IfMemory, Leaves, turns_by}
-use Rattle.study_register.specs.RegisterView.{of_opening, of_loading, of_appending}
+use Rattle.study_register.specs.RegisterFaults.{IsFirstStop, IsStopped, IsRegisterFault, IsAddFault, Leaves, turns_by}
+use Rattle.study_register.specs.RegisterView.{of_loading, of_appending}
 
 -- a fault that is handed on
 pub handed_on : {A E : Type 0} (r : Result A E) (Good : E → Type 0) (fault : E) → IsErrAnd r (λ e. e ≡ fault) → Good fault → IfErr r Good
@@ -58,39 +56,6 @@ appended_fault c s t l before now keepers.NoMemory T h = (t, T)
 pub appending_fault : (c : Content) (s t : StudyState) (l : Look) (before now : ℕ) (why : KeeperFault) (end : AddFault) → end ≡ of_appending why
     → Takes c s l t → CausedBy before now why → IsAddFault c s l (Rose before now) end
 appending_fault c s t l before now why end e T h = subst (IsAddFault c s l (Rose before now)) (sym e) (appended_fault c s t l before now why T h)
-
--- a fact, also where something is refused
-pub refused_too : (p : Type 0) (why : RegisterFault) → p → IfLooksRefused p why
-refused_too p (BadLook n l) h = h
-refused_too p (Wide n w) h = h
-refused_too p Fault h = tt
-refused_too p NoMemory h = h
-
--- where a loading refuses, its count stays but by a fault
-pub loading_steady : (before now : ℕ) (why : KeeperFault) → CausedBy before now why → IfLooksRefused (now ≡ before) (of_loading why)
-loading_steady before now keepers.Fault h = tt
-loading_steady before now keepers.NoMemory h = h
-
--- a fact, also where the keeper was asked
-pub asked_too : (p : Type 0) (why : RegisterFault) → p → IfAsked p why
-asked_too p (BadLook n l) h = h
-asked_too p (Wide n w) h = tt
-asked_too p Fault h = h
-asked_too p NoMemory h = tt
-
--- no opening of a case is a fault of the keeper
-pub opening_asked : (p : Type 0) (why : OpenFault) → IfAsked p (of_opening why)
-opening_asked p (openings.Wide w) = tt
-opening_asked p openings.NoMemory = tt
-
--- where an appending refuses, its count stays but by a fault
-appended_memory : (before now : ℕ) (why : KeeperFault) → CausedBy before now why → IfMemory (now ≡ before) (of_appending why)
-appended_memory before now keepers.Fault h = tt
-appended_memory before now keepers.NoMemory h = h
-
-pub appending_memory : (before now : ℕ) (why : KeeperFault) (end : AddFault) → end ≡ of_appending why → CausedBy before now why
-    → IfMemory (now ≡ before) end
-appending_memory before now why end e h = subst (IfMemory (now ≡ before)) (sym e) (appended_memory before now why h)
 
 -- an appending that refuses was called
 appended_turns : (why : KeeperFault) → turns_by (of_appending why) ≡ 1

@@ -84,46 +84,6 @@ module _ (c : Content) where
   Leaves s l new additions.Fault = Takes c s l new
   Leaves s l new additions.NoMemory = Takes c s l new
 
--- the fact `p`, unless the keeper had a fault: the opening of the case or a look of the keeper was refused, or the call is out of memory
-abbrev pub IfLooksRefused : Type 0 → RegisterFault → Type 0
-IfLooksRefused p (BadLook n l) = p
-IfLooksRefused p (Wide n w) = p
-IfLooksRefused p Fault = Unit {0}
-IfLooksRefused p NoMemory = p
-
--- the fact `p`, if this fault comes only after the keeper was called
-abbrev pub IfAsked : Type 0 → RegisterFault → Type 0
-IfAsked p (BadLook n l) = p
-IfAsked p (Wide n w) = Unit {0}
-IfAsked p Fault = p
-IfAsked p NoMemory = Unit {0}
-
--- the fact `p`, if the arrival was refused
-abbrev pub IfNotTaken : Type 0 → TakeFault → Type 0
-IfNotTaken p (takings.Refused f) = p
-IfNotTaken p (takings.Wide w) = Unit {0}
-
--- the fact `p`, if the arrival was refused
-abbrev pub IfRefused : Type 0 → AddFault → Type 0
-IfRefused p (additions.Refused f) = p
-IfRefused p (additions.Wide w) = Unit {0}
-IfRefused p additions.Fault = Unit {0}
-IfRefused p additions.NoMemory = Unit {0}
-
--- the fact `p`, if the keeper wasn't called
-abbrev pub IfNotAsked : Type 0 → AddFault → Type 0
-IfNotAsked p (additions.Refused f) = p
-IfNotAsked p (additions.Wide w) = p
-IfNotAsked p additions.Fault = Unit {0}
-IfNotAsked p additions.NoMemory = Unit {0}
-
--- the fact `p`, if the keeper was out of memory
-abbrev pub IfMemory : Type 0 → AddFault → Type 0
-IfMemory p (additions.Refused f) = Unit {0}
-IfMemory p (additions.Wide w) = Unit {0}
-IfMemory p additions.Fault = Unit {0}
-IfMemory p additions.NoMemory = p
-
 -- how many calls of the keeper a refused addition makes: none, unless the look can be taken
 abbrev pub turns_by : AddFault → ℕ
 turns_by (additions.Refused f) = 0

@@ -1,5 +1,5 @@
 //! Registers of looks.
-ghost use Rattle.std.specs.Prelude.{◌≡◌, ◌<◌, ◌≤◌, ◌+◌, OnOk, OnErr, IfOk, IfErr, false, length};
+ghost use Rattle.std.specs.Prelude.{◌≡◌, ◌≢◌, ◌<◌, ◌≤◌, ◌+◌, Err, OnOk, OnErr, IfOk, IfErr, false, length};
 ghost use Rattle.graph_io.specs.Causes.{Rose};
 ghost use Rattle.graph_io.specs.Keeping.{with_look};
 ghost use Rattle.case_model.specs.Content.{Content};
@@ -7,19 +7,7 @@ ghost use Rattle.case_model.specs.CaseView.{content};
 ghost use Rattle.staged_levels.specs.StudyAnswers.{IsStaged};
 ghost use Rattle.staged_levels.specs.StudyContents.{IsStudy, size_of};
 ghost use Rattle.study_register.specs.Looking.{Takes, AreTaken};
-ghost use Rattle.study_register.specs.RegisterFaults.{
-  OnLooks,
-  IsRegisterFault,
-  IsAddFault,
-  IfLooksRefused,
-  IfAsked,
-  IfRefused,
-  IfNotAsked,
-  IfMemory,
-  Leaves,
-  spent_after,
-  turns_of,
-};
+ghost use Rattle.study_register.specs.RegisterFaults.{OnLooks, IsRegisterFault, IsAddFault, Leaves, spent_after, turns_of};
 
 use crate::taking::{TakeFault, follow, take};
 use crate::{AddFault, RegisterFault};
@@ -38,11 +26,13 @@ pub struct Register {
 
 impl Register {
     ghost use Rattle.std.specs.Prelude.{ℕ, ◌↔◌, List as Seq};
+    ghost use Rattle.field_core.specs.declared.place.WideAt.{WideAt};
     ghost use Rattle.graph_io.specs.declared.keeper.Look.{Look as Kept};
     ghost use Rattle.case_model.specs.LegalOrder.{IsListed};
     ghost use Rattle.case_model.specs.StagedCase.{IsStagedRejectedIn};
     ghost use Rattle.case_model.specs.Validity.{IsValidContent};
     ghost use Rattle.staged_levels.specs.Studies.{positions_of};
+    ghost use Rattle.staged_levels.specs.declared.event.StepFault.{StepFault};
     ghost use Rattle.study_register.specs.Looking.{arrivals_of};
     ghost use Rattle.study_register.specs.RegisterView.{study_in, looks_in, is_spent};
 
@@ -70,11 +60,12 @@ impl Register {
             (K.faults keeper.old) (K.faults keeper.new))) }
         ensures kept { K.looks keeper.new ≡ K.looks keeper.old }
         ensures later { K.faults keeper.old ≤ K.faults keeper.new }
-        ensures counted { OnOk result (K.faults keeper.new ≡ K.faults keeper.old) }
-        ensures steady { IfErr result (IfLooksRefused (K.faults keeper.new ≡ K.faults keeper.old)) }
+        ensures steady { result ≢ Err RegisterFault.Fault → K.faults keeper.new ≡ K.faults keeper.old }
         ensures turns { K.calls keeper.new ≤ K.calls keeper.old + 1 }
         ensures loaded { OnOk result (K.calls keeper.new ≡ K.calls keeper.old + 1) }
-        ensures asked { IfErr result (IfAsked (K.calls keeper.new ≡ K.calls keeper.old + 1)) }
+        ensures asked { (n : ℕ) (l : Kept) → result ≡ Err (RegisterFault.BadLook n l)
+            → K.calls keeper.new ≡ K.calls keeper.old + 1 }
+        ensures fault_asked { result ≡ Err RegisterFault.Fault → K.calls keeper.new ≡ K.calls keeper.old + 1 }
     {
         let mut study = Study::open(alloc, case)?;
         let mut looks = List::new(alloc);
@@ -151,11 +142,12 @@ impl Register {
         ensures fault { IfErr result (λ fault. (c : Content) → IsStudy c (study_in self.old)
             → IsAddFault c (looks_in self.old) look.now (Rose (K.faults keeper.old) (K.faults keeper.new)) fault) }
         ensures unchanged { OnErr result (K.looks keeper.new ≡ K.looks keeper.old) }
-        ensures refused { IfErr result (IfRefused (study_in self.new ≡ study_in self.old)) }
+        ensures refused { (f : StepFault) → result ≡ Err (AddFault.Refused f) → study_in self.new ≡ study_in self.old }
         ensures left { IfErr result (λ fault. (c : Content) → IsStudy c (study_in self.old)
             → Leaves c (looks_in self.old) look.now (looks_in self.new) fault) }
-        ensures not_asked { IfErr result (IfNotAsked (keeper.new ≡ keeper.old)) }
-        ensures memory { IfErr result (IfMemory (K.faults keeper.new ≡ K.faults keeper.old)) }
+        ensures not_asked { (f : StepFault) → result ≡ Err (AddFault.Refused f) → keeper.new ≡ keeper.old }
+        ensures wide_not_asked { (w : WideAt) → result ≡ Err (AddFault.Wide w) → keeper.new ≡ keeper.old }
+        ensures memory { result ≡ Err AddFault.NoMemory → K.faults keeper.new ≡ K.faults keeper.old }
         ensures spent { is_spent self.new ≡ spent_after result }
         ensures size { size_of (study_in self.new) ≡ size_of (study_in self.old) }
         ensures later { K.faults keeper.old ≤ K.faults keeper.new }

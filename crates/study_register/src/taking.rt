@@ -1,11 +1,12 @@
 //! Looks that a study takes: each arrives, and then the study is settled.
-ghost use Rattle.std.specs.Prelude.{◌≡◌, ◌<◌, OnOk, IfErr};
+ghost use Rattle.std.specs.Prelude.{◌≡◌, ◌<◌, Err, OnOk, IfErr};
 ghost use Rattle.case_model.specs.Content.{Content};
 ghost use Rattle.staged_levels.specs.StudyContents.{IsStudy, size_of};
 ghost use Rattle.staged_levels.specs.StudyView.{study};
 ghost use Rattle.staged_levels.specs.declared.event.Event.TheVariants.{Arrive};
+ghost use Rattle.staged_levels.specs.declared.event.StepFault.{StepFault};
 ghost use Rattle.study_register.specs.Looking.{Takes, Follows};
-ghost use Rattle.study_register.specs.RegisterFaults.{IsTakeFault, IfNotTaken, LeavesUntaken, IsStopAt, IsFirstStop};
+ghost use Rattle.study_register.specs.RegisterFaults.{IsTakeFault, LeavesUntaken, IsStopAt, IsFirstStop};
 
 use crate::RegisterFault;
 use field_core::WideAt;
@@ -42,7 +43,7 @@ pub(crate) fn take(current: &mut Study, look: &Look) -> Result<(), TakeFault>
         → Takes c (study current.old).looks look.now (study current.new).looks) }
     ensures fault { IfErr result (λ fault. (c : Content) → IsStudy c (study current.old)
         → IsTakeFault c (study current.old).looks look.now fault) }
-    ensures refused { IfErr result (IfNotTaken (study current.new ≡ study current.old)) }
+    ensures refused { (f : StepFault) → result ≡ Err (TakeFault.Refused f) → study current.new ≡ study current.old }
     ensures left { IfErr result (λ fault. (c : Content) → IsStudy c (study current.old)
         → LeavesUntaken c (study current.old).looks look.now (study current.new).looks fault) }
     ensures size { size_of (study current.new) ≡ size_of (study current.old) }

@@ -385,10 +385,16 @@ fn rejection(hypothesis: usize) -> Settled {
 fn replies(rt: HostRuntime) -> Result<(), Fail> {
     let case = case(rt.alloc(), &ALL_REJECTED)?;
     let mut text = opened_text(rt.alloc(), &case, 12)?;
-    put_refused(&mut text, 3, &StepFault::Known(0, 1))?;
-    put_refused(&mut text, 10, &StepFault::StageRange(0))?;
-    put_refused(&mut text, 11, &StepFault::PRange)?;
-    put_shown(&mut text, &case, 14, &[rejection(2), rejection(0)])?;
+    put_refused(rt.alloc(), &mut text, 3, &StepFault::Known(0, 1))?;
+    put_refused(rt.alloc(), &mut text, 10, &StepFault::StageRange(0))?;
+    put_refused(rt.alloc(), &mut text, 11, &StepFault::PRange)?;
+    put_shown(
+        rt.alloc(),
+        &mut text,
+        &case,
+        14,
+        &[rejection(2), rejection(0)],
+    )?;
     let printed = "alpha 1/40\nrecords 12\nrefused 3: known\nrefused 10: stage\nrefused 11: range\n\
         show looks 14 rejected H1 H3\n";
     assert!(rt; text.as_slice() == printed.as_bytes());
@@ -405,8 +411,8 @@ fn a_look_without_rejections(rt: HostRuntime) -> Result<(), Fail> {
     };
     assert!(rt; 1 < case.size());
     let mut text = List::new(rt.alloc());
-    put_taken(&mut text, &case, &look, &[])?;
-    put_shown(&mut text, &case, 1, &[])?;
+    put_taken(rt.alloc(), &mut text, &case, &look, &[])?;
+    put_shown(rt.alloc(), &mut text, &case, 1, &[])?;
     assert!(rt; text.as_slice() == b"look H2 2 3/100\nshow looks 1 rejected\n".as_slice());
     Ok(())
 }

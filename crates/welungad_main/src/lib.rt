@@ -19,7 +19,7 @@ mod opener;
 mod words;
 
 use crate::opener::FileOpener;
-use crate::words::read_words;
+use crate::words::program_words;
 use graph_io::{StdSink, StdSource};
 use program::run_program;
 use std::process::ExitCode;
@@ -27,7 +27,7 @@ use std::process::ExitCode;
 /// Makes the call that the words after the program's name require, and returns the status of `run_program`, or of `NoWords` if
 /// the words can't be read.
 pub fn call(rt: &HostRuntime) -> ExitCode {
-    match read_words(rt) {
+    match program_words(rt) {
         Ok(words) => {
             let mut opener = FileOpener::new(rt);
             let mut case = StdSource::new(rt.stdin());

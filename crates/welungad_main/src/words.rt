@@ -10,8 +10,14 @@ pub enum NoWords {
 }
 
 impl NoWords {
+    ghost use Rattle.std.specs.Prelude.{◌≡◌};
+    ghost use Rattle.welungad_main.specs.declared.words.NoWords.TheVariants.{NoMemory, Unreadable};
+
     /// Returns the status with which the program ends. Nothing is printed then.
-    pub fn status(&self) -> u8 {
+    pub fn status(&self) -> u8
+        ensures memory { self.now ≡ NoMemory → result ≡ 8 }
+        ensures unreadable { self.now ≡ Unreadable → result ≡ 10 }
+    {
         match self {
             NoWords::NoMemory => 8,
             NoWords::Unreadable => 10,
@@ -35,6 +41,6 @@ impl From<AllocError> for NoWords {
 }
 
 /// Reads the words after the program's name. The error is `NoMemory` if out of memory, and `Unreadable` for any other reason.
-pub fn read_words(rt: &HostRuntime) -> Result<Vec<String>, NoWords> {
+pub fn program_words(rt: &HostRuntime) -> Result<Vec<String>, NoWords> {
     Ok(env::args(rt)?.skip(1).collect(rt.alloc())?)
 }

@@ -11,13 +11,14 @@ ghost use Rattle.graph_cli.specs.declared.kind.InputKind.TheVariants.{Single};
 ghost use Rattle.sequential.specs.Decisions.{hypotheses};
 
 use crate::commands::check::checked;
+use crate::commands::test::decided;
 use crate::trouble::{Run, Trouble};
 use answers::Answer;
 use case_model::Case;
 use evidence::{make, write};
 use evidence_check::{Evidence, Verdict};
 use field_core::List;
-use sequential::{Decision, Priority, decide};
+use sequential::{Decision, Priority};
 use std::alloc::Global;
 
 /// Makes the evidence of the flow run along the steps of a decision.
@@ -59,10 +60,7 @@ pub fn evidence_answer(alloc: Global, case: &Case, priority: Priority) -> Result
     requires { IsOfKind Single (content case.now).inputs }
     ensures { Meets (evidence_stage priority (content case.now)) result }
 {
-    let decision = decide(alloc, case, priority).map_err(|fault| Trouble::of_run(
-        Run::Deciding,
-        fault,
-    ))?;
+    let decision = decided(alloc, case, priority)?;
     let proof = flown(alloc, case, &decision)?;
     let text = confirmed(alloc, case, &decision, &proof)?;
     Ok(Answer::done(text))

@@ -7,12 +7,13 @@ ghost use Rattle.graph_cli.specs.Troubles.{Meets};
 ghost use Rattle.graph_cli.specs.declared.kind.InputKind.TheVariants.{Single};
 
 use crate::commands::catalogue_faults::fault_refusal;
-use crate::trouble::{Run, Trouble, ending_of};
+use crate::commands::test::decided;
+use crate::trouble::{Trouble, ending_of};
 use answers::{Answer, Stop};
 use case_model::Case;
 use catalogue::sample;
 use report::sample_text;
-use sequential::{Priority, decide};
+use sequential::Priority;
 use std::alloc::Global;
 
 /// Decides a sample with the priority `first`, and returns the report of both; `seed` is the seed of the sample.
@@ -20,10 +21,7 @@ fn decided_sample(alloc: Global, case: &Case, seed: u64) -> Result<Answer, Troub
     requires { IsOfKind Single (content case.now).inputs }
     ensures { Meets (decided_sample seed (content case.now)) result }
 {
-    let decision = decide(alloc, case, Priority::First).map_err(|fault| Trouble::of_run(
-        Run::Deciding,
-        fault,
-    ))?;
+    let decision = decided(alloc, case, Priority::First)?;
     Ok(Answer::done(sample_text(alloc, case, seed, &decision)?))
 }
 

@@ -4,7 +4,4 @@ use Rattle.report.proofs.study.put_names_among.Goals as goal
 
 pub returns : goal.returns
 unfolding is_among
-returns c = record {
-  put = c.put_names.ensures.put (is_among c.args.rejections.now) (λ j b q p. search rules);
-  begun = c.put_names.ensures.begun (is_among c.args.rejections.now) (λ j b q p. search rules);
-}
+returns c = c.put_names.ensures (is_among c.args.rejections.now) (λ j b q p. search rules)

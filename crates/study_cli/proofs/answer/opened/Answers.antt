@@ -1,10 +1,9 @@
-use Rattle.std.proofs.Common.{ap, ◌∙◌}
+use Rattle.std.proofs.Common.{ap, ◌∙◌, Err}
 use Rattle.graph_io.specs.Causes.{Rose}
-use Rattle.answers.proofs.Stopping.{handed_on}
 use Rattle.case_model.specs.CaseView.{content}
 use Rattle.refusals.specs.WideRefusal.{wide_refusal}
 use Rattle.refusals.specs.declared.wide.When.TheVariants.{Look as AfterLook}
-use Rattle.study_cli.proofs.Answering.{bad_look_told, wide_look_told, clean_by_look, clean_by_wide, clean_by_memory, rose_by, asked_by}
+use Rattle.study_cli.proofs.Answering.{bad_look_told, wide_look_told, rose_by}
 use Rattle.study_cli.proofs.answer.opened.Goals as goal
 
 pub returns-in_ok-record_refusal-in-Err-BadLook-clause-ends : goal.returns-in_ok-record_refusal-in-Err-BadLook-clause-ends
@@ -13,7 +12,7 @@ returns-in_ok-record_refusal-in-Err-BadLook-clause-ends g c =
       bad_look_told (content c.args.case.now) (g.K.Keeper.looks c.args.keeper.now)
           (Rose (g.K.Keeper.faults c.args.keeper.now) (g.K.Keeper.faults c.open.new.keeper)) e.field-0 e.n _ _ e.field-0-is e.ensures.fault
           c.in_ok-record_refusal-in-Err-BadLook.ensures,
-      clean_by_look _ e.field-0 e.n _ e.field-0-is e.ensures.steady,
+      e.ensures.steady (λ f. cc (f, e.field-0-is)),
     )
 
 pub returns-in_ok-wide_refusal-in-Err-Wide-clause-ends : goal.returns-in_ok-wide_refusal-in-Err-Wide-clause-ends
@@ -22,7 +21,7 @@ returns-in_ok-wide_refusal-in-Err-Wide-clause-ends g c =
       wide_look_told (content c.args.case.now) (g.K.Keeper.looks c.args.keeper.now)
           (Rose (g.K.Keeper.faults c.args.keeper.now) (g.K.Keeper.faults c.open.new.keeper)) e.field-0 e.n e.wide _ e.field-0-is e.ensures.fault
           (c.in_ok-wide_refusal-in-Err-Wide.ensures ∙ ap (λ ns. wide_refusal ns (AfterLook e.n) e.wide) c.names.ensures),
-      clean_by_wide _ e.field-0 e.n e.wide e.field-0-is e.ensures.steady,
+      e.ensures.steady (λ f. cc (f, e.field-0-is)),
     )
 
 pub returns-in-Err-Fault-clause-ends : goal.returns-in-Err-Fault-clause-ends
@@ -30,17 +29,4 @@ returns-in-Err-Fault-clause-ends g c =
     let e = c.in-Err-Fault in
     let rose = rose_by (content c.args.case.now) (g.K.Keeper.looks c.args.keeper.now)
     (Rose (g.K.Keeper.faults c.args.keeper.now) (g.K.Keeper.faults c.open.new.keeper)) e.field-0 e.field-0-is e.ensures.fault in
-    (rose.0, (rose.1, asked_by _ e.field-0 e.field-0-is e.ensures.asked))
-
-pub returns-in_err-record_refusal-in-Err-BadLook-clause-ends : goal.returns-in_err-record_refusal-in-Err-BadLook-clause-ends
-returns-in_err-record_refusal-in-Err-BadLook-clause-ends g c =
-    let e = c.in-Err-BadLook in
-    handed_on _ _ _ c.from_residual.ensures.1 (clean_by_look _ e.field-0 e.n _ e.field-0-is e.ensures.steady)
-
-pub returns-in_err-wide_refusal-in-Err-Wide-clause-ends : goal.returns-in_err-wide_refusal-in-Err-Wide-clause-ends
-returns-in_err-wide_refusal-in-Err-Wide-clause-ends g c =
-    let e = c.in-Err-Wide in
-    handed_on _ _ _ c.from_residual-in_err-wide_refusal-in-Err-Wide.ensures.1 (clean_by_wide _ e.field-0 e.n e.wide e.field-0-is e.ensures.steady)
-
-pub returns-in-Err-NoMemory-clause-ends : goal.returns-in-Err-NoMemory-clause-ends
-returns-in-Err-NoMemory-clause-ends g c = let e = c.in-Err-NoMemory in clean_by_memory _ e.field-0 e.field-0-is e.ensures.steady
+    (rose.0, (rose.1, e.ensures.fault_asked (ap Err e.field-0-is)))

@@ -7,7 +7,7 @@ use Rattle.refusals.specs.WideRefusal.{wide_refusal}
 use Rattle.refusals.specs.declared.wide.When.TheVariants.{Look as AfterLook}
 use Rattle.study_register.specs.RegisterView.{looks_in}
 use Rattle.study_cli.proofs.Answering.{opening_stops, none_kept, all_answered, break_answered, replied_kept, stopped_kept, failed_answered}
-use Rattle.study_cli.proofs.CommandsReplied.{broken_by, first_broken, failed_call}
+use Rattle.study_cli.proofs.CommandsReplied.{first_broken, failed_call}
 use Rattle.study_cli.proofs.answer.study_answer.Goals as goal
 
 pub returns-in_err-register-clause-ends : goal.returns-in_err-register-clause-ends
@@ -32,7 +32,7 @@ returns-in_err-ended-in-Ok-clause-ends g c =
           r.ensures.loaded _ _ _
           c.in-Ok.ensures.replied,
       tt,
-      c.in-Ok.ensures.counted ∙ r.ensures.ends.1,
+      c.in-Ok.ensures.counted (λ f. cc) ∙ r.ensures.ends.1,
     )
 
 pub returns-in-Ok-clause-ends : goal.returns-in-Ok-clause-ends
@@ -43,7 +43,7 @@ returns-in-Ok-clause-ends g c =
           (looks_in r.register) r.ensures.ends.0.taken _ _ _ r.ensures.loaded c.count.result c.in_ok-text.text _ _ _
           c.count.ensures c.in_ok-text.ensures c.in-Ok.ensures.replied c.in_ok-ended-in-Ok.ensures,
       tt,
-      c.in-Ok.ensures.counted ∙ r.ensures.ends.1,
+      c.in-Ok.ensures.counted (λ f. cc) ∙ r.ensures.ends.1,
     )
 
 pub returns-in_err-broken_off-in-Err-Wide-clause-ends : goal.returns-in_err-broken_off-in-Err-Wide-clause-ends
@@ -56,7 +56,7 @@ returns-in_err-broken_off-in-Err-Wide-clause-ends g c =
           r.ensures.loaded _ e.field-0
           e.ensures.stopped,
       tt,
-      broken_by e.field-0 e.place e.wide _ e.field-0-is e.ensures.counted ∙ r.ensures.ends.1,
+      e.ensures.counted (λ f. cc (f, e.field-0-is)) ∙ r.ensures.ends.1,
     )
 
 pub returns-in-Err-Wide-clause-ends : goal.returns-in-Err-Wide-clause-ends
@@ -71,7 +71,7 @@ returns-in-Err-Wide-clause-ends g c =
           (first_broken k s commands _ _ _ _ _ e.field-0 e.place e.wide e.field-0-is e.ensures.stopped)
           (c.in_ok-broken_off-in-Err-Wide.ensures ∙ ap₂ (λ n w. refused (wide_refusal k.names (AfterLook n) w)) e.place-is e.wide-is),
       tt,
-      broken_by e.field-0 e.place e.wide _ e.field-0-is e.ensures.counted ∙ r.ensures.ends.1,
+      e.ensures.counted (λ f. cc (f, e.field-0-is)) ∙ r.ensures.ends.1,
     )
 
 pub returns-in-Err-Fault-clause-ends : goal.returns-in-Err-Fault-clause-ends

@@ -1,11 +1,11 @@
-use Rattle.std.proofs.Common.{◌≡◌, ◌+◌, ap, ◌∙◌, subst₂, ◌++◌}
+use Rattle.std.proofs.Common.{◌≡◌, ap, ◌∙◌, subst₂, ◌++◌}
 use Rattle.graph_io.specs.Causes.{Rose}
 use Rattle.case_model.specs.CaseView.{content}
 use Rattle.staged_levels.specs.StudyView.{study}
 use Rattle.study_register.specs.Looking.{Follows}
-use Rattle.study_register.specs.RegisterFaults.{IsFirstStop, IsRegisterFault, IfLooksRefused, IfAsked}
-use Rattle.study_register.specs.RegisterView.{of_opening, of_loading}
-use Rattle.study_register.proofs.RegisterSteps.{handed_on, opened_defined, stopped_fault, loading_fault, refused_too, loading_steady, asked_too, opening_asked}
+use Rattle.study_register.specs.RegisterFaults.{IsFirstStop, IsRegisterFault}
+use Rattle.study_register.specs.RegisterView.{of_loading}
+use Rattle.study_register.proofs.RegisterSteps.{handed_on, opened_defined, stopped_fault, loading_fault}
 use Rattle.study_register.proofs.register.Register.open.Goals as goal
 
 pub returns-in_err-load-clause-fault : goal.returns-in_err-load-clause-fault
@@ -44,33 +44,3 @@ returns-clause-taken g c =
       },
       L.2,
     )
-
-pub returns-in_err-load-clause-steady : goal.returns-in_err-load-clause-steady
-returns-in_err-load-clause-steady g c =
-    let before = g.K.Keeper.faults c.args.keeper.now in
-    let now = g.K.Keeper.faults c.load.new.self in
-    handed_on _ (IfLooksRefused (now ≡ before)) (of_loading c.in_err-load.field-0.0) c.from_residual-in_err-load.ensures.1
-    (loading_steady before now c.in_err-load.field-0.0 c.in_err-load.ensures.cause.cause)
-
-pub returns-in_err-follow-clause-steady : goal.returns-in_err-follow-clause-steady
-returns-in_err-follow-clause-steady g c =
-    let same = g.K.Keeper.faults c.load.new.self ≡ g.K.Keeper.faults c.args.keeper.now in
-    handed_on _ (IfLooksRefused same) c.in_err-follow.field-0.0 c.from_residual-in_err-follow.ensures.1
-    (refused_too same c.in_err-follow.field-0.0 c.in_ok-load.ensures.cause.cause)
-
-pub returns-in_err-study-clause-asked : goal.returns-in_err-study-clause-asked
-returns-in_err-study-clause-asked g c =
-    let once = g.K.Keeper.calls c.args.keeper.now ≡ g.K.Keeper.calls c.args.keeper.now + 1 in
-    handed_on _ (IfAsked once) (of_opening c.in_err-study.field-0.0) c.from_residual.ensures.1 (opening_asked once c.in_err-study.field-0.0)
-
-pub returns-in_err-load-clause-asked : goal.returns-in_err-load-clause-asked
-returns-in_err-load-clause-asked g c =
-    let once = g.K.Keeper.calls c.load.new.self ≡ g.K.Keeper.calls c.args.keeper.now + 1 in
-    handed_on _ (IfAsked once) (of_loading c.in_err-load.field-0.0) c.from_residual-in_err-load.ensures.1
-    (asked_too once (of_loading c.in_err-load.field-0.0) c.load.ensures.turn)
-
-pub returns-in_err-follow-clause-asked : goal.returns-in_err-follow-clause-asked
-returns-in_err-follow-clause-asked g c =
-    let once = g.K.Keeper.calls c.load.new.self ≡ g.K.Keeper.calls c.args.keeper.now + 1 in
-    handed_on _ (IfAsked once) c.in_err-follow.field-0.0 c.from_residual-in_err-follow.ensures.1
-    (asked_too once c.in_err-follow.field-0.0 c.load.ensures.turn)
