@@ -39,7 +39,7 @@ const MINUS_HALF: u64 = 0xbfe0_0000_0000_0000;
 fn expect(
     rt: &impl Abort,
     alloc: Global,
-    p: &[u64],
+    doubles: &[u64],
     answer: Result<(), RowsFault>,
     marks: &[u8],
     statuses: &[u8],
@@ -47,7 +47,7 @@ fn expect(
     let case = case_of(rt, alloc, HOLM);
     let mut rejected = Vec::from_elem(alloc, 9, marks.len())?;
     let mut ends = Vec::from_elem(alloc, 9, statuses.len())?;
-    assert!(rt; test_rows(alloc, &case, p, &mut rejected, &mut ends) == answer);
+    assert!(rt; test_rows(alloc, &case, doubles, &mut rejected, &mut ends) == answer);
     assert!(rt; rejected.as_slice() == marks);
     assert!(rt; ends.as_slice() == statuses);
     Ok(())
@@ -56,21 +56,21 @@ fn expect(
 /// Whether each row is decided with its own p-values, whatever was decided before.
 #[test]
 fn rows_are_decided(rt: HostRuntime) -> Result<(), Fail> {
-    let p = [
+    let doubles = [
         ZERO, ONE, AT_LIMIT, ONE, ONE, ONE, ZERO, ZERO, ZERO, ONE, AT_LIMIT, ONE,
     ];
     let marks = [1, 0, 1, 0, 0, 0, 1, 1, 1, 0, 0, 0];
-    expect(&rt, rt.alloc(), &p, Ok(()), &marks, &[0, 0, 0, 0])
+    expect(&rt, rt.alloc(), &doubles, Ok(()), &marks, &[0, 0, 0, 0])
 }
 
 /// Whether a row with a double that has no reading is marked nowhere, and the rows round it are decided.
 #[test]
 fn rows_that_cannot_be_read_are_unmarked(rt: HostRuntime) -> Result<(), Fail> {
-    let p = [
+    let doubles = [
         ZERO, ONE, ONE, ZERO, NAN, ZERO, TWO, ZERO, ZERO, ZERO, ZERO, MINUS_HALF, ZERO, ONE, ONE,
     ];
     let marks = [1, 0, 0, 0, 0, 0, 0, 0, 0, 0, 0, 0, 1, 0, 0];
-    expect(&rt, rt.alloc(), &p, Ok(()), &marks, &[0, 3, 3, 3, 0])
+    expect(&rt, rt.alloc(), &doubles, Ok(()), &marks, &[0, 3, 3, 3, 0])
 }
 
 /// Whether nothing is written if a length doesn't fit.

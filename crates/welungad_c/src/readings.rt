@@ -36,13 +36,13 @@ fn words_of(bits: u64) -> [u64; 4]
 }
 
 /// Writes the readings of doubles, four words for each.
-pub fn write_readings(bits: &[u64], out: &mut [u64])
-    requires { HasFourWords bits.now out.old }
-    ensures { AreReadIn bits.now out.new }
+pub fn write_readings(doubles: &[u64], out: &mut [u64])
+    requires { HasFourWords doubles.now out.old }
+    ensures { AreReadIn doubles.now out.new }
 {
-    for i in 0..bits.len() {
+    for i in 0..doubles.len() {
         let start = i * 4;
         let end = start + 4;
-        out[start..end].copy_from_slice(&words_of(bits[i]));
+        out[start..end].copy_from_slice(&words_of(doubles[i]));
     }
 }
