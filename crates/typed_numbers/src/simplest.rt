@@ -13,6 +13,10 @@ const MOST_PLACES: u32 = 68;
 
 /// Returns the fraction of the least denominator in the interval from low / scale to high / scale, or nothing if that
 /// denominator passes `limit`. `ends` is 1 if the ends belong to it, else 0.
+///
+/// It walks down the Stern-Brocot tree, between a fraction below the interval and one above it that are neighbours in the tree.
+/// Their mediant `n / q` has the least denominator of all fractions between them. If it is outside the interval, it takes the
+/// place of the neighbour on its side, and `k` such steps are taken at once.
 fn simplest_between(
     scale: u128,
     low: u128,
