@@ -40,7 +40,7 @@ use readings::write_readings;
 use reply::Reply;
 use rows::test_text;
 use std::alloc::Global;
-use words::{NoWords, read_words};
+use words::{NoWords, words_of};
 
 /// Returns the number of this interface. It changes when a parameter, a status or the meaning of a call changes.
 #[unsafe(no_mangle)]
@@ -75,7 +75,7 @@ pub extern "C" fn welungad_run(
     ensures unread { ((ws : List (List ℕ)) → ¬ AreWords words.now ws) →
         HasNoWords out.old out.new needed.new result }
 {
-    match read_words(alloc, words) {
+    match words_of(alloc, words) {
         Ok(words) => match Reply::to(alloc, words.as_slice(), case, proof) {
             Ok(reply) => deliver(reply.text.as_slice(), reply.status, out, needed),
             Err(NoMemory) => deliver(b"no memory\n", 8, out, needed),

@@ -21,7 +21,7 @@ fn high(number: u128) -> u64
 
 /// Returns the four words of the reading of a double: the numerator and the denominator, each with its low word first, or zeros
 /// if it has no reading.
-fn words_of(bits: u64) -> [u64; 4]
+fn four_words(bits: u64) -> [u64; 4]
     ensures { AreWordsOf (reading_of bits) (λ j. get_or result j 0) }
 {
     match reading(bits) {
@@ -43,6 +43,6 @@ pub fn write_readings(doubles: &[u64], out: &mut [u64])
     for i in 0..doubles.len() {
         let start = i * 4;
         let end = start + 4;
-        out[start..end].copy_from_slice(&words_of(doubles[i]));
+        out[start..end].copy_from_slice(&four_words(doubles[i]));
     }
 }
