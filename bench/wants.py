@@ -273,6 +273,10 @@ def found_in(top):
             if re.search(r"(?m)^    NoMemory,", text[enum.end() : skip_brackets(text, enum.end() - 1)]):
                 wanted[enum.group(1)] = f"{enum.group(1)}::NoMemory"
         traits |= set(re.findall(r"(?m)^pub trait (\w+)", text))
+    for _, text in texts.values():
+        for alias, error in re.findall(r"(?m)^pub type (\w+) = (\w+)", text):
+            if error in wanted:
+                wanted[alias] = f"{alias}::NoMemory"
     functions = []
     for file, (crate, text) in texts.items():
         functions += functions_of(crate, file, text, traits, wanted)

@@ -15,7 +15,7 @@ pub struct Findings<'a> {
     table: &'a str,
     rows: u64,
     runs: u64,
-    told: String,
+    reported: String,
 }
 
 impl<'a> Findings<'a> {
@@ -26,13 +26,13 @@ impl<'a> Findings<'a> {
             table,
             rows: 0,
             runs: 0,
-            told: String::new(alloc),
+            reported: String::new(alloc),
         }
     }
 
     /// Whether each run ended as expected.
     pub fn is_clean(&self) -> bool {
-        self.told.is_empty()
+        self.reported.is_empty()
     }
 
     /// Counts a row.
@@ -61,16 +61,16 @@ impl<'a> Findings<'a> {
         ended: &Ended,
     ) -> Result<()> {
         if !wanted.is(ended) {
-            self.tell(row, plan)?;
-            write!(self.told, "  wanted {wanted}  came {ended}")?;
+            self.report(row, plan)?;
+            write!(self.reported, "  wanted {wanted}  came {ended}")?;
         }
         Ok(())
     }
 
     /// Reports something of a row, with the table and the line.
-    pub fn tell<D: fmt::Display + Drop>(&mut self, row: &Row, what: D) -> Result<()> {
+    pub fn report<D: fmt::Display + Drop>(&mut self, row: &Row, what: D) -> Result<()> {
         let (table, line) = (self.table, row.line);
-        write!(self.told, "{table}:{line}: {what}\n")?;
+        write!(self.reported, "{table}:{line}: {what}\n")?;
         Ok(())
     }
 }
@@ -81,9 +81,9 @@ impl fmt::Display for Findings<'_> {
             table,
             rows,
             runs,
-            told,
+            reported,
             ..
         } = self;
-        write!(f, "{told}{table}: {rows} rows, {runs} runs\n")
+        write!(f, "{reported}{table}: {rows} rows, {runs} runs\n")
     }
 }

@@ -89,7 +89,7 @@ impl<'a> Fronts<'a> {
         let is_line = ends == 1 && printed.ends_with(b"\n") && printed.starts_with(self.begins);
         if ended.status > 1 && !is_line {
             let what = printed.escape_ascii();
-            findings.tell(
+            findings.report(
                 row,
                 format_args!("the front of {length} bytes prints {what}"),
             )?;
@@ -103,7 +103,7 @@ impl<'a> Fronts<'a> {
         for (status, wanted) in self.counts.iter().copied() {
             let came = statuses.iter().filter(|other| **other == status).count();
             if came != wanted {
-                findings.tell(
+                findings.report(
                     row,
                     format_args!("fronts with status {status}: wanted {wanted}, came {came}"),
                 )?;
@@ -112,7 +112,7 @@ impl<'a> Fronts<'a> {
         }
         let came = statuses.len();
         if came != all {
-            findings.tell(row, format_args!("fronts: wanted {all}, came {came}"))?;
+            findings.report(row, format_args!("fronts: wanted {all}, came {came}"))?;
         }
         Ok(())
     }

@@ -39,7 +39,7 @@ fn run_row(alloc: Global, findings: &mut Findings, row: &Row) -> Result<()> {
     expect_left(findings, row, &ended)?;
     expect_counts(findings, row, &ended)?;
     if wanted.is(&ended) {
-        run_besides(alloc, findings, row, &ended)?;
+        run_further(alloc, findings, row, &ended)?;
     }
     Ok(())
 }
@@ -50,7 +50,7 @@ fn expect_left(findings: &mut Findings, row: &Row, ended: &Ended) -> Result<()> 
     let wanted = row.case.map(|_| row.leaves);
     let came = ended.left;
     if came != wanted {
-        findings.tell(
+        findings.report(
             row,
             format_args!("left of the case: wanted {wanted:?}, came {came:?}"),
         )?;
@@ -63,14 +63,14 @@ fn expect_counts(findings: &mut Findings, row: &Row, ended: &Ended) -> Result<()
     if let Some(wanted) = row.counts {
         let came = Counts::of(ended.printed.as_slice());
         if came != wanted {
-            findings.tell(row, format_args!("printed: wanted {wanted}, came {came}"))?;
+            findings.report(row, format_args!("printed: wanted {wanted}, came {came}"))?;
         }
     }
     Ok(())
 }
 
 /// Makes the further runs that a row requires after a run that ended as it is to.
-fn run_besides(alloc: Global, findings: &mut Findings, row: &Row, ended: &Ended) -> Result<()> {
+fn run_further(alloc: Global, findings: &mut Findings, row: &Row, ended: &Ended) -> Result<()> {
     if let Some(text) = row.checked {
         run_check(alloc, findings, row, ended, text)?;
     }

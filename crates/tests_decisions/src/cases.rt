@@ -27,6 +27,18 @@ pub const HOLM: &str = "alpha 0.025\n\
     edge H3 H1 1/2\n\
     edge H3 H2 1/2\n";
 
+/// Holm's procedure on three hypotheses, without p-values. The first rejection needs a p-value of at most 0.05/3, the second one
+/// of at most 0.025, the third one of at most 0.05.
+pub const BARE_HOLM: &str = "alpha 0.05\n\
+    hypotheses H1 H2 H3\n\
+    weights 1/3 1/3 1/3\n\
+    edge H1 H2 1/2\n\
+    edge H1 H3 1/2\n\
+    edge H2 H1 1/2\n\
+    edge H2 H3 1/2\n\
+    edge H3 H1 1/2\n\
+    edge H3 H2 1/2\n";
+
 /// The fallback procedure.
 pub const FALLBACK: &str = "alpha 0.03\n\
     hypotheses H1 H2 H3\n\

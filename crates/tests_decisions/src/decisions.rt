@@ -1,12 +1,19 @@
 //! Decisions by hand.
+ghost use Rattle.std.specs.Prelude.{◌≡◌};
+ghost use Rattle.std.specs.List.{list_all};
+ghost use Rattle.case_model.specs.Draft.{is_p_value};
+
 use crate::cases::{
-    CHAIN, EPSILON, FALLBACK, HOLM, IMPROVED_GATEKEEPING, NO_WEIGHT, Parts, SEQUENCE, TIE, case_of,
-    expect,
+    BARE_HOLM, CHAIN, EPSILON, FALLBACK, HOLM, IMPROVED_GATEKEEPING, NO_WEIGHT, Parts, SEQUENCE,
+    TIE, case_of, expect,
 };
+use case_model::is_p_value;
 use field_core::{Op, Place, WideAt};
-use sequential::{Decision, Priority, RunFault, StepLine, decide, is_single};
+use fraction::Fraction;
+use sequential::{Decision, Priority, RunFault, StepLine, decide, decide_with, is_single};
 use std::alloc::Global;
 use std::process::Abort;
+use std::test::Fail;
 
 /// A hypothesis and its weight.
 type Line = (usize, Parts);
@@ -149,17 +156,17 @@ fn are_lines(lines: &[StepLine], wanted: &[Line]) -> bool {
     lines.len() == wanted.len()
 }
 
+/// Whether a decision is that of a row.
+fn is_decided(decision: &Decision, row: &Row) -> bool {
+    are_lines(decision.steps.as_slice(), row.steps) && are_lines(decision.kept.as_slice(), row.kept)
+}
+
 fn expect_row(rt: &impl Abort, alloc: Global, row: &Row) {
     for priority in row.priorities {
         let Ok(decision) = decided(rt, alloc, row.case, *priority) else {
             panic!(rt; "no decision");
         };
-        expect(
-            rt,
-            are_lines(decision.steps.as_slice(), row.steps),
-            row.case,
-        );
-        expect(rt, are_lines(decision.kept.as_slice(), row.kept), row.case);
+        expect(rt, is_decided(&decision, row), row.case);
     }
 }
 
@@ -168,6 +175,84 @@ fn decisions_by_hand(rt: HostRuntime) {
     for row in ROWS {
         expect_row(&rt, rt.alloc(), row);
     }
+}
+
+/// P-values in place of those of a case, and how the case is decided with them.
+const WITH_OTHERS: &[(&[Parts], Row)] = &[
+    // Of 1/50, 1/100 and 1/40 the second is at most 0.05/3; then the others are at most 0.025.
+    (
+        &[(1, 50), (1, 100), (1, 40)],
+        Row {
+            case: BARE_HOLM,
+            priorities: &[Priority::First, Priority::Ratio],
+            steps: &[(1, (1, 3)), (0, (1, 2)), (2, (1, 1))],
+            kept: &[],
+        },
+    ),
+    (
+        &[(1, 50), (1, 100), (1, 40)],
+        Row {
+            case: BARE_HOLM,
+            priorities: &[Priority::Last],
+            steps: &[(1, (1, 3)), (2, (1, 2)), (0, (1, 1))],
+            kept: &[],
+        },
+    ),
+    // Its own p-values would reject all three.
+    (
+        &[(1, 1), (0, 1), (1, 1)],
+        Row {
+            case: HOLM,
+            priorities: ALL,
+            steps: &[(1, (1, 3))],
+            kept: &[(0, (1, 2)), (2, (1, 2))],
+        },
+    ),
+];
+
+/// Returns fractions of these parts.
+fn fractions(alloc: Global, parts: &[Parts]) -> Result<Vec<Fraction>, Fail> {
+    let mut fractions = Vec::new(alloc);
+    for (num, den) in parts {
+        fractions.push(Fraction::new(*num, *den)?)?;
+    }
+    Ok(fractions)
+}
+
+/// Whether each fraction can be a p-value.
+fn are_p_values(p: &[Fraction]) -> bool
+    ensures { result ≡ list_all is_p_value p.now }
+{
+    p.iter().all(|p| is_p_value(p))
+}
+
+/// Returns the decision on a case with other p-values in place of its own.
+fn decided_with(
+    rt: &impl Abort,
+    alloc: Global,
+    text: &str,
+    p: &[Fraction],
+    priority: Priority,
+) -> Result<Decision, RunFault> {
+    let case = case_of(rt, alloc, text);
+    assert!(rt; p.len() == case.size());
+    assert!(rt; are_p_values(p));
+    decide_with(alloc, &case, p, priority)
+}
+
+/// Whether a case is decided with other p-values, whether it has some or none.
+#[test]
+fn decisions_with_other_p_values(rt: HostRuntime) -> Result<(), Fail> {
+    for (parts, row) in WITH_OTHERS {
+        let p = fractions(rt.alloc(), parts)?;
+        for priority in row.priorities {
+            let Ok(decision) = decided_with(&rt, rt.alloc(), row.case, &p, *priority) else {
+                panic!(&rt; "no decision");
+            };
+            expect(&rt, is_decided(&decision, row), row.case);
+        }
+    }
+    Ok(())
 }
 
 /// An edge whose coefficients have no common factor.

@@ -13,7 +13,7 @@ fn ask(rt: &impl Abort, trial: &mut Trial, order: &[usize]) {
 }
 
 /// Whether some hypothesis can be rejected.
-fn goes_on(rt: &impl Abort, trial: &Trial) -> bool {
+fn some_is_legal(rt: &impl Abort, trial: &Trial) -> bool {
     for hypothesis in 0..trial.size() {
         assert!(rt; hypothesis < trial.size());
         if trial.can_reject(hypothesis) {
@@ -26,7 +26,7 @@ fn goes_on(rt: &impl Abort, trial: &Trial) -> bool {
 /// Requests all rejections again and again, until none can be rejected; a round that rejects nothing is the last.
 fn ask_all(rt: &impl Abort, trial: &mut Trial, order: &[usize]) {
     for _ in 0..trial.size() {
-        if !goes_on(rt, trial) {
+        if !some_is_legal(rt, trial) {
             return;
         }
         ask(rt, trial, order);
@@ -58,7 +58,7 @@ fn hypotheses_may_be_asked_for_in_any_order(rt: HostRuntime) -> Result<(), Fail>
             panic!(rt; "not opened");
         };
         ask_all(&rt, &mut trial, order);
-        assert!(rt; !goes_on(&rt, &trial));
+        assert!(rt; !some_is_legal(&rt, &trial));
         assert!(rt; trial.rejected() == *rejected);
     }
     Ok(())

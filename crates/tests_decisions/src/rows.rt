@@ -1,21 +1,10 @@
 //! Many rows of p-values, with marks by hand.
-use crate::cases::case_of;
+use crate::cases::{BARE_HOLM, CHAIN, WIDE_OPENING, case_of};
+use field_core::{Op, Place, WideAt};
 use std::alloc::Global;
 use std::process::Abort;
 use std::test::Fail;
 use trial_rows::{RowsFault, test_rows};
-
-/// Holm's procedure on three hypotheses, without p-values. The first rejection needs a p-value of at most 0.05/3, the second one
-/// of at most 0.025, the third one of at most 0.05.
-const HOLM: &str = "alpha 0.05\n\
-    hypotheses H1 H2 H3\n\
-    weights 1/3 1/3 1/3\n\
-    edge H1 H2 1/2\n\
-    edge H1 H3 1/2\n\
-    edge H2 H1 1/2\n\
-    edge H2 H3 1/2\n\
-    edge H3 H1 1/2\n\
-    edge H3 H2 1/2\n";
 
 /// The double 0.
 const ZERO: u64 = 0;
@@ -35,19 +24,20 @@ const NAN: u64 = 0x7ff8_0000_0000_0000;
 /// Minus 0.5.
 const MINUS_HALF: u64 = 0xbfe0_0000_0000_0000;
 
-/// Tests a call on `HOLM`, in whose marks and statuses each byte is 9 before: its answer, its marks and its statuses.
+/// Tests the answer, the marks and the statuses of a call on the case of a text. Each mark and each status is 9 before the call.
 fn expect(
     rt: &impl Abort,
     alloc: Global,
-    p: &[u64],
+    text: &str,
+    doubles: &[u64],
     answer: Result<(), RowsFault>,
     marks: &[u8],
     statuses: &[u8],
 ) -> Result<(), Fail> {
-    let case = case_of(rt, alloc, HOLM);
+    let case = case_of(rt, alloc, text);
     let mut rejected = Vec::from_elem(alloc, 9, marks.len())?;
     let mut ends = Vec::from_elem(alloc, 9, statuses.len())?;
-    assert!(rt; test_rows(alloc, &case, p, &mut rejected, &mut ends) == answer);
+    assert!(rt; test_rows(alloc, &case, doubles, &mut rejected, &mut ends) == answer);
     assert!(rt; rejected.as_slice() == marks);
     assert!(rt; ends.as_slice() == statuses);
     Ok(())
@@ -56,21 +46,98 @@ fn expect(
 /// Whether each row is decided with its own p-values, whatever was decided before.
 #[test]
 fn rows_are_decided(rt: HostRuntime) -> Result<(), Fail> {
-    let p = [
+    let doubles = [
         ZERO, ONE, AT_LIMIT, ONE, ONE, ONE, ZERO, ZERO, ZERO, ONE, AT_LIMIT, ONE,
     ];
     let marks = [1, 0, 1, 0, 0, 0, 1, 1, 1, 0, 0, 0];
-    expect(&rt, rt.alloc(), &p, Ok(()), &marks, &[0, 0, 0, 0])
+    expect(
+        &rt,
+        rt.alloc(),
+        BARE_HOLM,
+        &doubles,
+        Ok(()),
+        &marks,
+        &[0, 0, 0, 0],
+    )
 }
 
 /// Whether a row with a double that has no reading is marked nowhere, and the rows round it are decided.
 #[test]
 fn rows_that_cannot_be_read_are_unmarked(rt: HostRuntime) -> Result<(), Fail> {
-    let p = [
+    let doubles = [
         ZERO, ONE, ONE, ZERO, NAN, ZERO, TWO, ZERO, ZERO, ZERO, ZERO, MINUS_HALF, ZERO, ONE, ONE,
     ];
     let marks = [1, 0, 0, 0, 0, 0, 0, 0, 0, 0, 0, 0, 1, 0, 0];
-    expect(&rt, rt.alloc(), &p, Ok(()), &marks, &[0, 3, 3, 3, 0])
+    expect(
+        &rt,
+        rt.alloc(),
+        BARE_HOLM,
+        &doubles,
+        Ok(()),
+        &marks,
+        &[0, 3, 3, 3, 0],
+    )
+}
+
+/// Whether a row whose run is undefined is marked nowhere, and the rows round it are decided.
+#[test]
+fn rows_that_are_too_wide_are_unmarked(rt: HostRuntime) -> Result<(), Fail> {
+    // If H1 to H3 are rejected, the weight of H4 would be 1/10^18 times 1/999999999999999999 times 1/999999999999999997.
+    let doubles = [
+        ZERO, ONE, ZERO, ZERO, ZERO, ZERO, ZERO, ZERO, ZERO, ZERO, ONE, ZERO, ZERO, ZERO, ZERO, NAN,
+    ];
+    let marks = [1, 0, 0, 0, 0, 0, 0, 0, 1, 1, 0, 0, 0, 0, 0, 0];
+    expect(
+        &rt,
+        rt.alloc(),
+        CHAIN,
+        &doubles,
+        Ok(()),
+        &marks,
+        &[0, 5, 0, 3],
+    )
+}
+
+/// Whether nothing is written if the opening is undefined, and the lengths are compared before.
+#[test]
+fn rows_are_refused_if_the_opening_is_too_wide(rt: HostRuntime) -> Result<(), Fail> {
+    let alloc = rt.alloc();
+    // The least common denominator of the three terms of the edge is near 10^54.
+    let wide = WideAt {
+        component: 0,
+        place: Place::Edge(0, 1),
+        op: Op::Add,
+    };
+    let refused = Err(RowsFault::Wide(wide));
+    let lengths = Err(RowsFault::Lengths);
+    expect(
+        &rt,
+        alloc,
+        WIDE_OPENING,
+        &[ZERO; 4],
+        refused,
+        &[9; 4],
+        &[9; 2],
+    )?;
+    expect(
+        &rt,
+        alloc,
+        WIDE_OPENING,
+        &[NAN; 2],
+        refused,
+        &[9; 2],
+        &[9; 1],
+    )?;
+    expect(&rt, alloc, WIDE_OPENING, &[], refused, &[], &[])?;
+    expect(
+        &rt,
+        alloc,
+        WIDE_OPENING,
+        &[ZERO; 3],
+        lengths,
+        &[9; 3],
+        &[9; 1],
+    )
 }
 
 /// Whether nothing is written if a length doesn't fit.
@@ -78,9 +145,9 @@ fn rows_that_cannot_be_read_are_unmarked(rt: HostRuntime) -> Result<(), Fail> {
 fn rows_of_other_lengths_are_refused(rt: HostRuntime) -> Result<(), Fail> {
     let alloc = rt.alloc();
     let refused = Err(RowsFault::Lengths);
-    expect(&rt, alloc, &[], Ok(()), &[], &[])?;
-    expect(&rt, alloc, &[ZERO; 3], refused, &[9; 3], &[9; 2])?;
-    expect(&rt, alloc, &[ZERO; 4], refused, &[9; 4], &[9; 1])?;
-    expect(&rt, alloc, &[ZERO; 3], refused, &[9; 6], &[9; 2])?;
-    expect(&rt, alloc, &[ZERO; 6], refused, &[9; 3], &[9; 1])
+    expect(&rt, alloc, BARE_HOLM, &[], Ok(()), &[], &[])?;
+    expect(&rt, alloc, BARE_HOLM, &[ZERO; 3], refused, &[9; 3], &[9; 2])?;
+    expect(&rt, alloc, BARE_HOLM, &[ZERO; 4], refused, &[9; 4], &[9; 1])?;
+    expect(&rt, alloc, BARE_HOLM, &[ZERO; 3], refused, &[9; 6], &[9; 2])?;
+    expect(&rt, alloc, BARE_HOLM, &[ZERO; 6], refused, &[9; 3], &[9; 1])
 }

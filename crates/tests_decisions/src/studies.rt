@@ -4,8 +4,9 @@ ghost use Rattle.staged_levels.specs.StudyAnswers.{hypothesis_of};
 
 use crate::cases::{Parts, case_of};
 use case_model::Case;
+use field_core::{Op, Place, WideAt};
 use fraction::{Fraction, FractionFault};
-use staged_levels::{Event, Settled, StepFault, Study, is_staged};
+use staged_levels::{Event, SettleFault, Settled, StepFault, Study, is_staged};
 use std::alloc::Global;
 use std::process::Abort;
 use std::test::Fail;
@@ -117,7 +118,7 @@ fn each_event_is_answered(rt: HostRuntime) -> Result<(), Fail> {
     Ok(())
 }
 
-/// The weight of H4 would have a denominator near 10^54.
+/// After the rejections of H1 to H3 the weight of H4 would be 1/10^18 times 1/999999999999999999 times 1/999999999999999997.
 const TOO_WIDE: &str =
     "alpha 0.05\nhypotheses H1 H2 H3 H4\nweights 1 0 0 0\nedge H1 H2 1/1000000000000000000\nedge H2 H3 1/999999999999999999\nedge H3 H4 1/999999999999999997\nstages 1\nspend H1 1\nspend H2 1\nspend H3 1\nspend H4 1\n";
 
@@ -133,11 +134,18 @@ fn rejections_stay_where_a_settling_breaks_off(rt: HostRuntime) -> Result<(), Fa
                 .is_ok()
         );
     }
-    assert!(rt; study.settle().is_err());
-    assert!(rt; study.settled().len() == 2);
+    let wide = WideAt {
+        component: 0,
+        place: Place::Weight(3),
+        op: Op::Mul,
+    };
+    // H1 passes on its whole weight times 1/10^18.
+    let left = [(0, 1, (1, 1)), (1, 1, (1, 1_000_000_000_000_000_000))];
+    assert!(rt; study.settle() == Err(SettleFault::Wide(wide)));
+    assert!(rt; are(study.settled(), &left));
     // A request for this rejection is refused too, and nothing changes.
     assert!(rt; 2 < study.size());
-    assert!(rt; matches!(study.step(Event::Reject(2)), Err(StepFault::Wide(_))));
-    assert!(rt; study.settled().len() == 2);
+    assert!(rt; study.step(Event::Reject(2)) == Err(StepFault::Wide(wide)));
+    assert!(rt; are(study.settled(), &left));
     Ok(())
 }

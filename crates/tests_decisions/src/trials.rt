@@ -3,7 +3,7 @@ ghost use Rattle.std.specs.Prelude.{◌≡◌, not};
 ghost use Rattle.field_core.specs.Sets.{set_of};
 
 use crate::cases::{CHAIN, HOLM, IMPROVED_GATEKEEPING, Parts, case_of, expect};
-use field_core::{Number, Place};
+use field_core::{Number, Op, Place, WideAt};
 use sequential::{RejectFault, Trial, is_single};
 use std::alloc::Global;
 use std::process::Abort;
@@ -15,8 +15,8 @@ enum Answer {
     Again,
     /// The hypothesis isn't legal at this weight.
     NotLegal(Parts),
-    /// The hypothesis is legal, and its removal is too wide at this place.
-    Wide(Place),
+    /// The hypothesis is legal, and its removal is too wide at this operation.
+    Wide(WideAt),
 }
 
 /// The hypothesis whose rejection is requested, the answer, and some weights then.
@@ -40,13 +40,21 @@ const ROWS: &[Row] = &[
         ],
         rejected: &[1, 0],
     },
-    // A rejection that is too wide changes nothing.
+    // A rejection that is too wide changes nothing. The weight of H4 would be that of H3 times 1/999999999999999997.
     Row {
         case: CHAIN,
         calls: &[
             (0, Answer::Done, &[]),
             (1, Answer::Done, &[(2, LONG)]),
-            (2, Answer::Wide(Place::Weight(3)), &[(2, LONG), (3, (0, 1))]),
+            (
+                2,
+                Answer::Wide(WideAt {
+                    component: 0,
+                    place: Place::Weight(3),
+                    op: Op::Mul,
+                }),
+                &[(2, LONG), (3, (0, 1))],
+            ),
         ],
         rejected: &[0, 1],
     },
@@ -109,7 +117,7 @@ fn is_answer(answer: Result<(), RejectFault>, wanted: &Answer) -> bool {
         (Err(RejectFault::NotLegal(weight)), Answer::NotLegal((num, den))) => {
             weight.num() == *num && weight.den() == *den
         }
-        (Err(RejectFault::Wide(wide)), Answer::Wide(place)) => wide.place == *place,
+        (Err(RejectFault::Wide(wide)), Answer::Wide(wanted)) => wide == *wanted,
         _ => false,
     }
 }

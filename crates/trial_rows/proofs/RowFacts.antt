@@ -11,13 +11,13 @@ use Rattle.trial_rows.specs.Rows.{IsMark, IsRowTested, decided, unread, wide, in
 use Rattle.typed_numbers.specs.Readings.{reading_of}
 
 -- what a row gives is by its own places
-pub same_row : (c : Content) (bits bits' marks marks' : ℕ → ℕ) (status : ℕ) → ((j : ℕ) → j < length c.names → bits' j ≡ bits j)
-    → ((j : ℕ) → j < length c.names → marks' j ≡ marks j) → IsRowTested c bits marks status → IsRowTested c bits' marks' status
-same_row c bits bits' marks marks' status b m (decided e ps r run each) =
+pub same_row : (c : Content) (doubles doubles' marks marks' : ℕ → ℕ) (status : ℕ) → ((j : ℕ) → j < length c.names → doubles' j ≡ doubles j)
+    → ((j : ℕ) → j < length c.names → marks' j ≡ marks j) → IsRowTested c doubles marks status → IsRowTested c doubles' marks' status
+same_row c doubles doubles' marks marks' status b m (decided e ps r run each) =
     decided e ps (record { count = r.count; each = λ j h. ap reading_of (b j h) ∙ r.each j h }) run (λ j h. subst (IsMark _) (sym (m j h)) (each j h))
-same_row c bits bits' marks marks' status b m (unread e r none) =
+same_row c doubles doubles' marks marks' status b m (unread e r none) =
     unread e (record { place = r.place; below = r.below; unread = ap reading_of (b r.place r.below) ∙ r.unread }) (λ j h. m j h ∙ none j h)
-same_row c bits bits' marks marks' status b m (wide e ps r step at w none) =
+same_row c doubles doubles' marks marks' status b m (wide e ps r step at w none) =
     wide e ps (record { count = r.count; each = λ j h. ap reading_of (b j h) ∙ r.each j h }) step at w (λ j h. m j h ∙ none j h)
 
 -- ---- places of rows

@@ -15,15 +15,15 @@ use Rattle.trial_rows.specs.declared.fault.RowsFault.{RowsFault}
 use Rattle.trial_rows.specs.declared.fault.RowsFault.TheVariants.{Lengths, Wide, NoMemory}
 
 -- these are the readings of the first `m` doubles
-pub record AreReadings (m : ℕ) (bits : ℕ → ℕ) (ps : List Ratio) : Type 0 where
+pub record AreReadings (m : ℕ) (doubles : ℕ → ℕ) (ps : List Ratio) : Type 0 where
   pub count : length ps ≡ m
-  pub each : (j : ℕ) → j < m → reading_of (bits j) ≡ Some (ratio_at ps j)
+  pub each : (j : ℕ) → j < m → reading_of (doubles j) ≡ Some (ratio_at ps j)
 
 -- some of the first `m` doubles has no reading
-pub record HasUnread (m : ℕ) (bits : ℕ → ℕ) : Type 0 where
+pub record HasUnread (m : ℕ) (doubles : ℕ → ℕ) : Type 0 where
   pub place : ℕ
   pub below : place < m
-  pub unread : reading_of (bits place) ≡ None
+  pub unread : reading_of (doubles place) ≡ None
 
 -- a mark is 1 exactly if the given fact holds, and else 0
 abbrev pub IsMark : Type 0 → ℕ → Type 0
@@ -39,12 +39,12 @@ IsRunDefined c ps = (step : ℕ) (at : WideAt) → ¬ IsWideDecision (with_p c p
 
 -- What a row of doubles gives: a mark for each hypothesis of the case, and a status. Either each double has a reading, and the run with these is defined;
 -- or one has none; or each has one, and the run is undefined. Exactly one of the three holds, since a double has at most one reading.
-pub data IsRowTested (c : Content) (bits marks : ℕ → ℕ) (status : ℕ) : Type 0 where
-  decided : status ≡ 0 → (ps : List Ratio) → AreReadings (length c.names) bits ps → IsRunDefined c ps
-      → ((j : ℕ) → j < length c.names → IsMark (IsRejectedIn (with_p c ps) j) (marks j)) → IsRowTested c bits marks status
-  unread : status ≡ 3 → HasUnread (length c.names) bits → AreUnmarked (length c.names) marks → IsRowTested c bits marks status
-  wide : status ≡ 5 → (ps : List Ratio) → AreReadings (length c.names) bits ps → (step : ℕ) → (at : WideAt)
-      → IsWideDecision (with_p c ps) First step at → AreUnmarked (length c.names) marks → IsRowTested c bits marks status
+pub data IsRowTested (c : Content) (doubles marks : ℕ → ℕ) (status : ℕ) : Type 0 where
+  decided : status ≡ 0 → (ps : List Ratio) → AreReadings (length c.names) doubles ps → IsRunDefined c ps
+      → ((j : ℕ) → j < length c.names → IsMark (IsRejectedIn (with_p c ps) j) (marks j)) → IsRowTested c doubles marks status
+  unread : status ≡ 3 → HasUnread (length c.names) doubles → AreUnmarked (length c.names) marks → IsRowTested c doubles marks status
+  wide : status ≡ 5 → (ps : List Ratio) → AreReadings (length c.names) doubles ps → (step : ℕ) → (at : WideAt)
+      → IsWideDecision (with_p c ps) First step at → AreUnmarked (length c.names) marks → IsRowTested c doubles marks status
 
 -- the value at place `j` of a row, where each row has `m` places and rows follow one another
 abbrev pub in_row : ℕ → List ℕ → ℕ → ℕ → ℕ

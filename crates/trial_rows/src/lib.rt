@@ -10,6 +10,7 @@
 
 mod fault;
 mod row;
+mod row_end;
 mod rows;
 
 pub use fault::RowsFault;

@@ -35,38 +35,38 @@ fn test_each(
     opened: &CaseNet,
     first: Trial,
     p_values: &mut [Fraction],
-    p: &[u64],
+    doubles: &[u64],
     rejected: &mut [u8],
     statuses: &mut [u8],
 )
     requires opened { case_opening (content case.now) ≡ Ok (case_state opened.now) }
     requires graph { IsTrialOfGraph (content case.now) (trial first) }
     requires room { length p_values.old ≡ length (content case.now).names }
-    requires rows { AreRows (length (content case.now).names) (length p.now) (length rejected.old) (length statuses.old) }
-    ensures { AreRowsTested (content case.now) p.now rejected.new statuses.new }
+    requires rows { AreRows (length (content case.now).names) (length doubles.now) (length rejected.old) (length statuses.old) }
+    ensures { AreRowsTested (content case.now) doubles.now rejected.new statuses.new }
 {
     let size = case.size();
     let mut current = first;
     for row in 0..statuses.len() {
         let start = row * size;
         let end = start + size;
-        let (next, status) = test_row(
+        let (next, row_end) = test_row(
             case,
             opened,
             current,
-            &p[start..end],
+            &doubles[start..end],
             p_values,
             &mut rejected[start..end],
         );
         current = next;
-        statuses[row] = status;
+        statuses[row] = row_end.code();
     }
 }
 
 /// Decides a case with each of many rows of p-values in place of its own; the case may have none of its own.
 ///
-/// `p` has the bits of the doubles, and `rejected` a mark for each hypothesis, both row by row. `statuses` has a status for each
-/// row:
+/// `doubles` has the bits of each double, and `rejected` a mark for each hypothesis, both row by row. `statuses` has a status for
+/// each row:
 /// - 3 if a double has no reading; all marks of the row are then 0.
 /// - 5 if each has one, but the run with the readings is undefined; all marks of the row are then 0.
 /// - 0 if the row is decided with the readings. Its marks are 1 for the hypotheses that the closed test rejects, and 0 for the
@@ -79,23 +79,31 @@ fn test_each(
 pub fn test_rows(
     alloc: Global,
     case: &Case,
-    p: &[u64],
+    doubles: &[u64],
     rejected: &mut [u8],
     statuses: &mut [u8],
 ) -> Result<(), RowsFault>
-    ensures fit { OnOk result (AreRows (length (content case.now).names) (length p.now) (length rejected.old) (length statuses.old)) }
+    ensures fit { OnOk result (AreRows (length (content case.now).names) (length doubles.now) (length rejected.old) (length statuses.old)) }
     ensures opening { OnOk result (IsOpeningDefined (content case.now)) }
-    ensures rows { OnOk result (AreRowsTested (content case.now) p.now rejected.new statuses.new) }
-    ensures fault { IfErr result (IsRowsFault (content case.now) (length p.now) (length rejected.old) (length statuses.old)) }
+    ensures rows { OnOk result (AreRowsTested (content case.now) doubles.now rejected.new statuses.new) }
+    ensures fault { IfErr result (IsRowsFault (content case.now) (length doubles.now) (length rejected.old) (length statuses.old)) }
     ensures rejected { OnErr result (rejected.new ≡ rejected.old) }
     ensures statuses { OnErr result (statuses.new ≡ statuses.old) }
 {
-    if !are_rows(case.size(), p.len(), rejected.len(), statuses.len()) {
+    if !are_rows(case.size(), doubles.len(), rejected.len(), statuses.len()) {
         return Err(RowsFault::Lengths);
     }
     let mut p_values = vec![in alloc; Fraction::zero(); case.size()]?;
     let first = Trial::open_with(alloc, case, &p_values)?;
     let opened = CaseNet::load(alloc, case)?;
-    test_each(case, &opened, first, &mut p_values, p, rejected, statuses);
+    test_each(
+        case,
+        &opened,
+        first,
+        &mut p_values,
+        doubles,
+        rejected,
+        statuses,
+    );
     Ok(())
 }

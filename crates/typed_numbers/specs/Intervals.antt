@@ -20,7 +20,7 @@ exponent_of bits = bits / 2 ^ 52
 abbrev pub digits_of : ℕ → ℕ
 digits_of bits = bits % 2 ^ 52
 
--- the digits, after the leading one that only a subnormal double doesn't have
+-- the mantissa: a leading 1 and the digits after it, or the digits alone of a subnormal double
 abbrev pub mantissa_by : ℕ → ℕ → ℕ
 mantissa_by zero digits = digits
 mantissa_by (suc e) digits = 2 ^ 52 + digits

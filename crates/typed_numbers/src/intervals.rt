@@ -22,7 +22,7 @@ pub struct Interval {
     ghost valid: { IsInterval places low middle high ends },
 }
 
-/// Returns the digits of a double after their leading 1, which a subnormal double doesn't have.
+/// Returns the mantissa of a double: a leading 1 and the digits after it, or the digits alone of a subnormal double.
 fn mantissa(exponent: u64, digits: u64) -> u128
     requires { digits < 0x10000000000000 }
     ensures { result ≡ mantissa_by exponent digits }

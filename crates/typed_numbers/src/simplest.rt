@@ -13,6 +13,10 @@ const MOST_PLACES: u32 = 68;
 
 /// Returns the fraction of the least denominator in the interval from low / scale to high / scale, or nothing if that
 /// denominator passes `limit`. `ends` is 1 if the ends belong to it, else 0.
+///
+/// It walks down the Stern-Brocot tree, between a fraction below the interval and one above it that are neighbours in the tree.
+/// Their mediant `n / q` has the least denominator of all fractions between them. If it is outside the interval, it takes the
+/// place of the neighbour on its side, and `k` such steps are taken at once.
 fn simplest_between(
     scale: u128,
     low: u128,
@@ -29,23 +33,25 @@ fn simplest_between(
     ensures found { IfSome result (λ f. IsSimplestIn (record { scale = scale; low = low; high = high; ends = ends }) limit f.0 f.1) }
     ensures none { result ≡ None → HasNoneIn (record { scale = scale; low = low; high = high; ends = ends }) limit }
 {
-    let mut a: u128 = 0;
-    let mut b: u128 = 1;
-    let mut c: u128 = 1;
-    let mut d: u128 = 1;
-    while b + d <= limit {
-        let n = a + c;
-        let q = b + d;
+    let mut below_num: u128 = 0;
+    let mut below_den: u128 = 1;
+    let mut above_num: u128 = 1;
+    let mut above_den: u128 = 1;
+    while below_den + above_den <= limit {
+        let n = below_num + above_num;
+        let q = below_den + above_den;
         if n * scale + ends <= low * q {
-            let most = (low * b - a * scale - ends) / (c * scale - low * d);
+            let most = (low * below_den - below_num * scale - ends)
+                / (above_num * scale - low * above_den);
             let k = most.min(limit);
-            a += k * c;
-            b += k * d;
+            below_num += k * above_num;
+            below_den += k * above_den;
         } else if high * q + ends <= n * scale {
-            let most = (c * scale - high * d - ends) / (high * b - a * scale);
+            let most = (above_num * scale - high * above_den - ends)
+                / (high * below_den - below_num * scale);
             let k = most.min(limit);
-            c += k * a;
-            d += k * b;
+            above_num += k * below_num;
+            above_den += k * below_den;
         } else {
             return Some((n, q));
         }

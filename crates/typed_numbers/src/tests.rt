@@ -1,6 +1,7 @@
 //! Readings of doubles, with values by hand.
 use crate::reading;
 use fraction::Fraction;
+use std::process::Abort;
 
 /// The bits of a double, and numerator and denominator of what it is read as.
 type Row = (u64, i128, i128);
@@ -75,16 +76,23 @@ fn terms(read: Option<Fraction>) -> (i128, i128) {
     }
 }
 
+/// Asserts that a row of a table holds; the bits say which.
+fn expect(rt: &impl Abort, holds: bool, bits: u64) {
+    assert!(rt; holds, "{bits}");
+}
+
+/// Whether each double from 0 to 1 is read as the fraction of its row.
 #[test]
 fn doubles_from_0_to_1(rt: HostRuntime) {
     for (bits, num, den) in READINGS {
-        assert_eq!(rt; terms(reading(*bits)), (*num, *den), "at {bits}");
+        expect(&rt, terms(reading(*bits)) == (*num, *den), *bits);
     }
 }
 
+/// Whether other doubles have no reading.
 #[test]
 fn other_doubles(rt: HostRuntime) {
     for bits in UNREADABLE {
-        assert!(rt; reading(*bits).is_none());
+        expect(&rt, reading(*bits).is_none(), *bits);
     }
 }

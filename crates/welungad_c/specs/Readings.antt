@@ -22,12 +22,12 @@ AreWordsOf (Some x) words = AreParts (terms_of x) words
 
 -- Each double has the four words of its reading.
 abbrev pub AreReadIn : List ℕ → List ℕ → Type 0
-AreReadIn bits words = (i : ℕ) → i < length bits → AreWordsOf (reading_of (get_or bits i 0)) (in_row 4 words i)
+AreReadIn doubles words = (i : ℕ) → i < length doubles → AreWordsOf (reading_of (get_or doubles i 0)) (in_row 4 words i)
 
 -- there are four words for each double
 abbrev pub HasFourWords : List ℕ → List ℕ → Type 0
-HasFourWords bits words = length words ≡ length bits * 4
+HasFourWords doubles words = length words ≡ length doubles * 4
 
 -- The status is 0 and the words of each double are written, or there aren't four words for each, the status is 11, and nothing is written.
 abbrev pub Reads : List ℕ → List ℕ → List ℕ → ℕ → Type 0
-Reads bits old new result = (HasFourWords bits old × (result ≡ 0) × AreReadIn bits new) ⊎ (¬ HasFourWords bits old × (result ≡ 11) × (new ≡ old))
+Reads doubles old new result = (HasFourWords doubles old × (result ≡ 0) × AreReadIn doubles new) ⊎ (¬ HasFourWords doubles old × (result ≡ 11) × (new ≡ old))

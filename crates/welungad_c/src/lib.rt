@@ -40,7 +40,7 @@ use readings::write_readings;
 use reply::Reply;
 use rows::test_text;
 use std::alloc::Global;
-use words::{NoWords, read_words};
+use words::{NoWords, words_of};
 
 /// Returns the number of this interface. It changes when a parameter, a status or the meaning of a call changes.
 #[unsafe(no_mangle)]
@@ -75,7 +75,7 @@ pub extern "C" fn welungad_run(
     ensures unread { ((ws : List (List ℕ)) → ¬ AreWords words.now ws) →
         HasNoWords out.old out.new needed.new result }
 {
-    match read_words(alloc, words) {
+    match words_of(alloc, words) {
         Ok(words) => match Reply::to(alloc, words.as_slice(), case, proof) {
             Ok(reply) => deliver(reply.text.as_slice(), reply.status, out, needed),
             Err(NoMemory) => deliver(b"no memory\n", 8, out, needed),
@@ -97,20 +97,20 @@ pub extern "C" fn welungad_run(
 /// - 0: the words of each double are written
 /// - 11: `out` doesn't have four words for each double; then it stays
 #[unsafe(no_mangle)]
-pub extern "C" fn welungad_read(bits: &[u64], out: &mut [u64]) -> u8
-    ensures { Reads bits.now out.old out.new result }
+pub extern "C" fn welungad_read(doubles: &[u64], out: &mut [u64]) -> u8
+    ensures { Reads doubles.now out.old out.new result }
 {
-    if out.len() % 4 != 0 || out.len() / 4 != bits.len() {
+    if out.len() % 4 != 0 || out.len() / 4 != doubles.len() {
         return 11;
     }
-    write_readings(bits, out);
+    write_readings(doubles, out);
     0
 }
 
 /// Decides the case of a text with each of many rows of p-values, which take the place of its own p-values, if it has any.
 ///
-/// `p` holds the bits of the doubles, and `rejected` a mark for each hypothesis, both row by row. `statuses` holds a status for
-/// each row:
+/// `doubles` holds the bits of each double, and `rejected` a mark for each hypothesis, both row by row. `statuses` holds a status
+/// for each row:
 /// - 0: the row is decided; a mark of it is 1 if its hypothesis is rejected, and else 0
 /// - 3: a double of the row has no reading; all marks of the row are 0
 /// - 5: the run is undefined; all marks of the row are 0
@@ -124,11 +124,11 @@ pub extern "C" fn welungad_read(bits: &[u64], out: &mut [u64]) -> u8
 pub extern "C" fn welungad_test_rows(
     alloc: Global,
     case: &[u8],
-    p: &[u64],
+    doubles: &[u64],
     rejected: &mut [u8],
     statuses: &mut [u8],
 ) -> u8
-    ensures { TestsRows case.now p.now rejected.old rejected.new statuses.old statuses.new result }
+    ensures { TestsRows case.now doubles.now rejected.old rejected.new statuses.old statuses.new result }
 {
-    test_text(alloc, case, p, rejected, statuses)
+    test_text(alloc, case, doubles, rejected, statuses)
 }

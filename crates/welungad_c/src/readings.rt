@@ -21,7 +21,7 @@ fn high(number: u128) -> u64
 
 /// Returns the four words of the reading of a double: the numerator and the denominator, each with its low word first, or zeros
 /// if it has no reading.
-fn words_of(bits: u64) -> [u64; 4]
+fn four_words(bits: u64) -> [u64; 4]
     ensures { AreWordsOf (reading_of bits) (λ j. get_or result j 0) }
 {
     match reading(bits) {
@@ -36,13 +36,13 @@ fn words_of(bits: u64) -> [u64; 4]
 }
 
 /// Writes the readings of doubles, four words for each.
-pub fn write_readings(bits: &[u64], out: &mut [u64])
-    requires { HasFourWords bits.now out.old }
-    ensures { AreReadIn bits.now out.new }
+pub fn write_readings(doubles: &[u64], out: &mut [u64])
+    requires { HasFourWords doubles.now out.old }
+    ensures { AreReadIn doubles.now out.new }
 {
-    for i in 0..bits.len() {
+    for i in 0..doubles.len() {
         let start = i * 4;
         let end = start + 4;
-        out[start..end].copy_from_slice(&words_of(bits[i]));
+        out[start..end].copy_from_slice(&four_words(doubles[i]));
     }
 }

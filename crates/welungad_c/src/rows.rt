@@ -52,14 +52,14 @@ fn status_of(fault: RowsFault) -> u8
 pub fn test_text(
     alloc: Global,
     text: &[u8],
-    p: &[u64],
+    doubles: &[u64],
     rejected: &mut [u8],
     statuses: &mut [u8],
 ) -> u8
-    ensures { TestsRows text.now p.now rejected.old rejected.new statuses.old statuses.new result }
+    ensures { TestsRows text.now doubles.now rejected.old rejected.new statuses.old statuses.new result }
 {
     match case_of(alloc, text) {
-        Ok(case) => match test_rows(alloc, &case, p, rejected, statuses) {
+        Ok(case) => match test_rows(alloc, &case, doubles, rejected, statuses) {
             Ok(()) => 0,
             Err(fault) => status_of(fault),
         },

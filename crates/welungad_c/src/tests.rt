@@ -64,26 +64,26 @@ fn refuses_words(rt: HostRuntime) -> Result<(), Fail> {
 /// Whether 0.025, 0.1 + 0.2, the least double and a NaN get their four words, and nothing is written if `out` has more or fewer.
 #[test]
 fn reads_doubles(rt: HostRuntime) -> Result<(), Fail> {
-    let bits = [
+    let doubles = [
         0x3f99_9999_9999_999a,
         0x3fd3_3333_3333_3334,
         1,
         0x7ff8_0000_0000_0000,
     ];
     let mut out = [7u64; 16];
-    assert!(rt; welungad_read(&bits, &mut out) == 0);
+    assert!(rt; welungad_read(&doubles, &mut out) == 0);
     assert!(rt; out[..8] == [1, 0, 40, 0, 7500000000000001, 0, 25000000000000000, 0]);
     // 10^30 is 54210108624 * 2^64 + 5076944270305263616
     assert!(rt; out[8..] == [1, 0, 5076944270305263616, 54210108624, 0, 0, 0, 0]);
-    assert!(rt; welungad_read(&bits[..3], &mut out) == 11);
-    assert!(rt; welungad_read(&bits[..3], &mut out[..11]) == 11);
+    assert!(rt; welungad_read(&doubles[..3], &mut out) == 11);
+    assert!(rt; welungad_read(&doubles[..3], &mut out[..11]) == 11);
     assert!(rt; out[0] == 1);
     Ok(())
 }
 
 /// Decides a case with three rows: 0.025 for H1 and 0.05 for H2, then 0.06 and 0, then 2 and 0.
 fn decide_rows(alloc: Global, case: &[u8], marks: &mut [u8], statuses: &mut [u8]) -> u8 {
-    let p = [
+    let doubles = [
         0x3f99_9999_9999_999a,
         0x3fa9_9999_9999_999a,
         0x3fae_b851_eb85_1eb8,
@@ -91,7 +91,7 @@ fn decide_rows(alloc: Global, case: &[u8], marks: &mut [u8], statuses: &mut [u8]
         0x4000_0000_0000_0000,
         0,
     ];
-    welungad_test_rows(alloc, case, &p, marks, statuses)
+    welungad_test_rows(alloc, case, &doubles, marks, statuses)
 }
 
 /// Whether rows are decided, one with a double that has no reading is not, and nothing is written if the case is refused, has stages, or

@@ -47,8 +47,8 @@ fn text(alloc: Global, bytes: &[u8]) -> Result<String, NoWords>
     }
 }
 
-/// Reads words that are each ended by a byte 0. `Unreadable`: the bytes are not those of any words.
-pub fn read_words(alloc: Global, bytes: &[u8]) -> Result<List<String>, NoWords>
+/// Cuts bytes into words, each ended by a byte 0. `Unreadable`: the bytes are not those of any words.
+pub fn words_of(alloc: Global, bytes: &[u8]) -> Result<List<String>, NoWords>
     ensures words { IfOk result (λ words. AreWords bytes.now (words_in words)) }
     ensures none { IfErr result (LeavesNoWords bytes.now) }
 {

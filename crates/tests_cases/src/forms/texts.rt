@@ -33,7 +33,7 @@ fn expect_kind(rt: &impl Abort, alloc: Global, texts: &[(&str, usize)], kind: Li
 }
 
 #[test]
-fn lines_cannot_stand(rt: HostRuntime) {
+fn lines_are_refused(rt: HostRuntime) {
     expect_kind(&rt, rt.alloc(), UNEXPECTED, LineKind::Unexpected);
     expect_kind(&rt, rt.alloc(), ENDED, LineKind::Ended);
     expect_kind(&rt, rt.alloc(), WORD_COUNTS, LineKind::WordCount);

@@ -13,26 +13,28 @@ loop-row-preserved c =
     let m = length k.names in
     let s = c.size-size.result in
     let row = c.loop-row.row in
-    let p = c.args.p.now in
+    let doubles = c.args.doubles.now in
     let marks = c.loop-row.rejected in
     let part = c.test_row-next.new.marks in
     let statuses = c.loop-row.statuses in
-    let status = c.test_row-next.result.1 in
+    let status = c.code.result in
     let e : s ≡ m = c.size-size.ensures.count in
-    let doubles_are : length p ≡ length statuses * m = c.requires.rows.doubles_are ∙ ap (λ n. n * m) (sym c.loop-row.auto.statuses) in
-    let marks_are : length marks ≡ length p = c.loop-row.auto.rejected ∙ c.requires.rows.marks_are in
+    let doubles_are : length doubles ≡ length statuses * m = c.requires.rows.doubles_are ∙ ap (λ n. n * m) (sym c.loop-row.auto.statuses) in
+    let marks_are : length marks ≡ length doubles = c.loop-row.auto.rejected ∙ c.requires.rows.marks_are in
     let within : row < length statuses = let t = c.loop-row-test.true in omega (arith, t, c.loop-row.auto.statuses) in
-    let ends : row * s + s ≤ length p = row_within s row (length statuses) (length p) within (doubles_are ∙ ap (λ n. length statuses * n) (sym e)) in
+    let ends : row * s + s ≤ length doubles = row_within s row (length statuses) (length doubles) within (doubles_are ∙ ap (λ n. length statuses * n) (sym e)) in
     let long : length (between (row * s) (row * s + s) marks) ≡ row * s + s - row * s =
     length-between marks (row * s) (row * s + s) (omega (arith, ends, marks_are)) in
     let many : length part ≡ m = omega (arith, c.test_row-next.auto.marks, long, e) in
-    let here : IsRowTested k (λ j. get_or (between (row * m) (row * m + m) p) j 0) (λ j. get_or part j 0) status =
-    subst (λ n. IsRowTested k (λ j. get_or (between (row * n) (row * n + n) p) j 0) (λ j. get_or part j 0) status) e c.test_row-next.ensures.row in
+    let ended : IsRowTested k (λ j. get_or (between (row * s) (row * s + s) doubles) j 0) (λ j. get_or part j 0) status =
+    subst (IsRowTested k (λ j. get_or (between (row * s) (row * s + s) doubles) j 0) (λ j. get_or part j 0)) (sym c.code.ensures) c.test_row-next.ensures.row in
+    let here : IsRowTested k (λ j. get_or (between (row * m) (row * m + m) doubles) j 0) (λ j. get_or part j 0) status =
+    subst (λ n. IsRowTested k (λ j. get_or (between (row * n) (row * n + n) doubles) j 0) (λ j. get_or part j 0) status) e ended in
     record {
       graph = c.test_row-next.ensures.graph;
-      tested = subst (λ n. (i : ℕ) → i < row + 1 → IsRowTested k (in_row m p i) (in_row m (put_mid (row * n) (row * s + s - row * s) marks part) i)
+      tested = subst (λ n. (i : ℕ) → i < row + 1 → IsRowTested k (in_row m doubles i) (in_row m (put_mid (row * n) (row * s + s - row * s) marks part) i)
           (get_or (set statuses row status) i 0)) (sym e)
-          (one_more_row k p marks part statuses row status (row * s + s - row * s) within doubles_are marks_are many c.loop-row.invariant.tested here);
+          (one_more_row k doubles marks part statuses row status (row * s + s - row * s) within doubles_are marks_are many c.loop-row.invariant.tested here);
     }
 
 pub returns : goal.returns

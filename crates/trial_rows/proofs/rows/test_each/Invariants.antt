@@ -8,6 +8,6 @@ use Rattle.trial_rows.proofs.rows.test_each.Given as goal
 abbrev pub invariant-loop-row : goal.invariant-loop-row
 invariant-loop-row l = record {
   graph : IsTrialOfGraph (content l.case) (trial l.current);
-  tested : (k : ℕ) → k < l.row → IsRowTested (content l.case) (in_row (length (content l.case).names) l.p k)
+  tested : (k : ℕ) → k < l.row → IsRowTested (content l.case) (in_row (length (content l.case).names) l.doubles k)
       (in_row (length (content l.case).names) l.rejected k) (get_or l.statuses k 0);
 }

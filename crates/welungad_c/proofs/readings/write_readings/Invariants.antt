@@ -5,4 +5,4 @@ use Rattle.welungad_c.specs.Readings.{AreWordsOf}
 use Rattle.welungad_c.proofs.readings.write_readings.Given as goal
 
 abbrev pub invariant-loop-i : goal.invariant-loop-i
-invariant-loop-i l = (k : ℕ) → k < l.i → AreWordsOf (reading_of (get_or l.bits k 0)) (in_row 4 l.out k)
+invariant-loop-i l = (k : ℕ) → k < l.i → AreWordsOf (reading_of (get_or l.doubles k 0)) (in_row 4 l.out k)

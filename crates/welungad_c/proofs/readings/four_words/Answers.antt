@@ -6,7 +6,7 @@ use Rattle.fraction.specs.View.{terms_of}
 use Rattle.typed_numbers.specs.Readings.{reading_of}
 use Rattle.welungad_c.specs.Readings.{AreWordsOf}
 use Rattle.welungad_c.proofs.Parts.{parts_of}
-use Rattle.welungad_c.proofs.readings.words_of.Goals as goal
+use Rattle.welungad_c.proofs.readings.four_words.Goals as goal
 
 pub returns-in-Some : goal.returns-in-Some
 returns-in-Some c =
