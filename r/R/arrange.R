@@ -33,7 +33,7 @@ arranged <- function(x, keys, what, count = NULL) {
     return(x[places_among(given, keys, what)])
   }
   if (!is.null(count) && length(x) != count) {
-    stop_at(what, whole_text(length(x)), " given for ", whole_text(count), if (count == 1) " hypothesis" else " hypotheses")
+    stop_at(what, whole_text(length(x)), " given for ", count_of_hypotheses(count))
   }
   x
 }

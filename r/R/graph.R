@@ -85,7 +85,9 @@ graph_entangle <- function(..., shares) {
   }
   first <- graphs[[1]]
   for (graph in graphs) {
-    if (!identical(graph[c("names", "labels")], first[c("names", "labels")])) stop_at("...", "the graphs have the same hypotheses in the same order")
+    if (!identical(graph[c("names", "labels")], first[c("names", "labels")])) {
+      stop_at("...", "the graphs have the same hypotheses in the same order")
+    }
     if (length(graph$components) != 1) stop_at("...", "a graph that is entangled already can't be entangled again")
   }
   shares <- arranged_shares(shares, graphs)
@@ -215,9 +217,8 @@ as.data.frame.welungad_graph <- function(x, ..., exact = FALSE) {
 }
 
 format.welungad_graph <- function(x, ...) {
-  n <- length(x$names)
   components <- length(x$components)
-  paste0("Graph of ", n, if (n == 1) " hypothesis" else " hypotheses", if (components > 1) paste(" with", components, "components"))
+  paste0("Graph of ", count_of_hypotheses(length(x$names)), if (components > 1) paste(" with", components, "components"))
 }
 
 # A row for each hypothesis: its weight over all graphs, and how many edges leave it and lead to it.

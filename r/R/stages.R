@@ -152,8 +152,8 @@ as.data.frame.welungad_stages <- function(x, ..., exact = FALSE) {
 }
 
 format.welungad_stages <- function(x, ...) {
-  n <- length(x$graph$names)
-  paste0("Staged test of ", n, if (n == 1) " hypothesis" else " hypotheses", " at ", x$plan$count, " stages, level ", level_text(x$alpha))
+  paste0("Staged test of ", count_of_hypotheses(length(x$graph$names)), " at ", count_of(x$plan$count, "stage"), ", level ",
+    level_text(x$alpha))
 }
 
 # The rejections, a row each.

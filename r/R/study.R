@@ -108,7 +108,7 @@ new_study <- function(graph, store, looks, report) {
 as.data.frame.welungad_study <- function(x, ...) x$looks
 
 format.welungad_study <- function(x, ...) {
-  paste0("Study of ", length(x$graph$names), " hypotheses in ", x$store, ", level ", level_text(x$alpha))
+  paste0("Study of ", count_of_hypotheses(length(x$graph$names)), " in ", x$store, ", level ", level_text(x$alpha))
 }
 
 print.welungad_study <- function(x, digits = 6, ...) {
@@ -117,10 +117,12 @@ print.welungad_study <- function(x, digits = 6, ...) {
   table <- x$rejections
   if (nrow(table)) {
     cat("Rejected by the looks of this call:\n")
-    write_table(cbind(look = table$look, hypothesis = table$hypothesis, stage = table$stage, weight = shown(double_of(table$weight), digits)))
+    write_table(cbind(look = table$look, hypothesis = table$hypothesis, stage = table$stage,
+      weight = shown(double_of(table$weight), digits)))
   }
   for (i in seq_len(nrow(x$refused))) {
-    cat("Not taken: row ", x$refused$row[i], ", ", x$refused$hypothesis[i], " at stage ", x$refused$stage[i], ": ", x$refused$why[i], "\n", sep = "")
+    cat("Not taken: row ", x$refused$row[i], ", ", x$refused$hypothesis[i], " at stage ", x$refused$stage[i], ": ",
+      x$refused$why[i], "\n", sep = "")
   }
   print_rejected(x)
   invisible(x)

@@ -75,8 +75,7 @@ graph_rejections <- function(x, exact = FALSE) {
 }
 
 format.welungad_test <- function(x, ...) {
-  n <- length(x$graph$names)
-  paste0("Graphical test of ", n, if (n == 1) " hypothesis" else " hypotheses", " at level ", level_text(x$alpha),
+  paste0("Graphical test of ", count_of_hypotheses(length(x$graph$names)), " at level ", level_text(x$alpha),
     if (x$priority != "first") paste(", priority", x$priority))
 }
 
