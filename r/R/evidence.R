@@ -1,7 +1,7 @@
 # Evidence for a decision, and its check.
 
 graph_evidence <- function(graph, p, alpha = 0.025, priority = c("first", "last", "ratio")) {
-  priority <- match.arg(priority)
+  priority <- chosen(priority, priorities, "priority")
   case <- case_of(graph, p, alpha)
   evidence <- ask(c("evidence", if (priority != "first") c("--priority", priority)), case)
   structure(list(evidence = evidence$lines, case = ask("canon", case)$lines, graph = graph), class = "welungad_evidence")

@@ -113,7 +113,7 @@ arranged_shares <- function(shares, graphs) {
 catalogue_names <- c("holm", "fixed-sequence", "fallback", "parallel", "improved-parallel")
 
 graph_catalogue <- function(name, size, second = NULL) {
-  name <- match.arg(name, catalogue_names)
+  name <- chosen(name, catalogue_names, "name")
   if ((name %in% c("parallel", "improved-parallel")) == is.null(second)) {
     stop_at("second", "the number of secondary hypotheses is ", if (is.null(second)) "needed" else "not used", " for ", name)
   }
@@ -130,10 +130,12 @@ graph_catalogue <- function(name, size, second = NULL) {
 }
 
 graph_read <- function(file, form = c("text", "csv", "json"), alpha = NULL) {
-  form <- match.arg(form)
+  form <- chosen(form, c("text", "csv", "json"), "form")
   if (!is.character(file) || length(file) != 1 || !file.exists(file) || dir.exists(file)) {
     stop_at("file", "there is no file ", if (is.character(file)) quoted(file[1]) else "of this name")
   }
+  if (form == "csv" && is.null(alpha)) stop_at("alpha", "a case of the form csv has no level of its own, so one is needed")
+  if (form != "csv" && !is.null(alpha)) stop_at("alpha", "a case of the form ", form, " has a level of its own")
   bytes <- readBin(file, "raw", file.size(file))
   words <- c("canon", if (form != "text") c("--form", form), if (!is.null(alpha)) c("--alpha", level_of(alpha)))
   case <- ask(words, handed(bytes))

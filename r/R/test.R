@@ -1,7 +1,9 @@
 # Decisions.
 
+priorities <- c("first", "last", "ratio")
+
 graph_test <- function(graph, p, alpha = 0.025, priority = c("first", "last", "ratio")) {
-  priority <- if (missing(priority)) "first" else match.arg(priority)
+  priority <- if (missing(priority)) "first" else chosen(priority, priorities, "priority")
   case <- case_of(graph, p, alpha)
   new_test(ask(c("test", if (priority != "first") c("--priority", priority)), case), priority, case)
 }

@@ -72,7 +72,8 @@ test_that("other refusals carry status, line and advice", {
     expect_equal(line(graph_create(c(0.5, 0.5), diag(2))), "malformed: case: self edge of H1 component 1")
     expect_equal(line(graph_bounds(holm(17), rep(0.1, 17))), "limit: closure 17")
     expect_equal(line(graph_catalogue("holm", 65)), "limit: size 65")
-    expect_error(graph_catalogue("hochberg", 3), "should be one of")
+    several <- "name: one of \"holm\", \"fixed-sequence\", \"fallback\", \"parallel\", \"improved-parallel\" is needed"
+    expect_error(graph_catalogue("hochberg", 3), paste0(several, ", and not \"hochberg\""), fixed = TRUE)
     wide <- refusal_of(graph_test(graph_create(c(1, 0, 0, 0), rbind(
       c("0", "1/1000000000000000000", "0", "0"), c("0", "0", "1/999999999999999999", "0"), c("0", "0", "0", "1/999999999999999997"), "0"
     )), c(0, 0, 0, 0), 0.05))
