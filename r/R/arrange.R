@@ -66,9 +66,9 @@ vector_of_frame <- function(x, what) {
 # The numbers of a data frame, column by column, since R turns a whole one with a column of texts into texts of 7 digits.
 exact_frame <- function(x, what) {
   columns <- lapply(seq_along(x), column_of, x = x, what = what)
-  part <- function(name) unlist(lapply(columns, `[[`, name))
   rows <- attr(x, "row.names")
-  new_exact(part("given"), part("read"), part("rule"), NULL, dim(x), list(if (is.character(rows)) rows, names(x)))
+  new_exact(joined(columns, "given"), joined(columns, "read"), joined(columns, "rule"), NULL, dim(x),
+    list(if (is.character(rows)) rows, names(x)))
 }
 
 column_of <- function(x, j, what) {

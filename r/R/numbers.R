@@ -184,8 +184,8 @@ exact_to_total <- function(x, total) {
   read <- exact_of(x, "x")
   found <- beside(read$read)
   moved <- which(!is.na(found$fraction) & read$rule == "shortest decimal")
-  read$read[moved] <- found$fraction[moved]
-  read$rule[moved] <- "beside a small fraction"
+  read <- new_exact(read$given, replace(read$read, moved, found$fraction[moved]), replace(read$rule, moved, "beside a small fraction"),
+    read$names, read$dim, read$dimnames)
   rows <- if (length(read$dim) == 2) split(seq_along(read$read), rep(seq_len(read$dim[1]), read$dim[2])) else list(seq_along(read$read))
   for (i in seq_along(rows)) {
     values <- fraction(read$read[rows[[i]]])

@@ -38,8 +38,9 @@ and denominators up to 10,000.
 }
 \value{
 An object of class \code{welungad_exact} with the parts \code{given}, \code{read} (the text that is handed to the program) and
-\code{rule}. It keeps names, and the rows and columns of a matrix. \code{[}, \code{c}, \code{names} and \code{unname} work as for
-other vectors. \code{as.character} and \code{format} give the texts, \code{summary} how many numbers were read by each rule, and
+\code{rule}. It keeps names, and the rows and columns of a matrix. \code{[}, \code{[[}, \code{c}, \code{rep}, \code{names},
+\code{unname} and \code{is.na} work as for other vectors. So do assignments such as \code{x["H1"] <- 1 / 3}, by which the new number is
+read as any other; its number of elements has to be 1, or that of the places. \code{as.character} and \code{format} give the texts, \code{summary} how many numbers were read by each rule, and
 \code{as.data.frame} a table.
 }
 \seealso{
@@ -49,4 +50,7 @@ other vectors. \code{as.character} and \code{format} give the texts, \code{summa
 as_exact(c(1 / 3, 0.025, 0.3333, 0.1 + 0.2))
 as_exact(c("1/3", "1-\\\\epsilon"))
 as_exact(seq(0.1, 0.4, 0.1), total = 1)
+p <- c(H1 = as_exact("1/240"), H2 = 0.02)
+p["H2"] <- 1 / 120
+p
 }
