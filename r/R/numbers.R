@@ -47,7 +47,7 @@ check_encoding <- function(x, what) {
 names_in <- function(x) {
   own <- names(x)
   if (length(own) > length(x)) own <- own[seq_along(x)]
-  if (inherits(x, c("bigq", "bigz")) && anyNA(own)) NULL else own
+  if (inherits(x, c("bigq", "bigz")) && all(is.na(own))) NULL else own
 }
 
 # The numerators `n` and denominators `d` of the fractions with d up to 10,000 at the doubles, or at most `room` beside them.

@@ -37,9 +37,8 @@ test_that("p-values with names are put in order, whatever their class", {
       expect_equal(x$rejected, c(H1 = FALSE, H2 = TRUE), info = class(form)[1])
       expect_equal(x$exact$p, c("9/10", "1/1000"))
     }
-    for (graph_call in list(graph_bounds, graph_simes, graph_test_closure, graph_evidence, graph_canon)) {
+    for (graph_call in list(graph_bounds, graph_simes, graph_test_closure, graph_evidence)) {
       expect_match(paste(graph_call(pair(), as_exact(p))$case, collapse = "\n"), "p 9/10 1/1000", fixed = TRUE)
-      break
     }
     expect_equal(graph_canon(pair(), as_exact(p))[3], "p 9/10 1/1000")
     expect_error(graph_test(pair(), c(H1 = 0.1, H1 = 0.2)), "p: the name \"H1\" occurs twice", fixed = TRUE)
@@ -47,6 +46,13 @@ test_that("p-values with names are put in order, whatever their class", {
     expect_error(graph_test(pair(), c(H = 0.1, H2 = 0.2)), "p: no hypothesis has the name \"H\"", fixed = TRUE)
     expect_error(graph_test(pair(), c(H1 = 0.1, 0.2)), "p: the second has no name, and others have one", fixed = TRUE)
     expect_error(graph_test(pair(), c(H1 = 0.1, H2 = 0.2, H3 = 0.3)), "p: no hypothesis has the name \"H3\"", fixed = TRUE)
+    for (own in list("H2", c("H2", NA))) {
+      names(fractions) <- own
+      expect_error(graph_test(pair(), fractions), "p: the second has no name, and others have one", fixed = TRUE)
+    }
+    names(fractions) <- c(NA, "H1")
+    expect_error(graph_test(pair(), fractions), "p: the first has no name, and others have one", fixed = TRUE)
+    expect_equal(graph_test(pair(), rev(gmp::as.bigq(c(1, 9), c(1000, 10))))$exact$p, c("9/10", "1/1000"))
     expect_error(graph_test(pair(), c(H1 = 0.1)), "p: nothing is given for \"H2\"", fixed = TRUE)
     expect_error(graph_test(pair(), matrix(0.1, 2, 2)), "p: a vector is needed, and not a table of 2 by 2")
     expect_error(graph_test(pair(), data.frame(a = 1:2, b = 1:2)), "p: a data frame has one row")
