@@ -108,6 +108,12 @@ test_that("names decide the direction of a table of levels", {
     expect_error(graph_stages(diabetes(), list(0.001, 0.002)), "levels: 2 given for 4 hypotheses", fixed = TRUE)
     expect_error(graph_stages(diabetes(), list(0.001)), "levels: 1 given for 4 hypotheses", fixed = TRUE)
     expect_error(graph_stages(diabetes(), rep(list(0.001), 4), at = c(1, 1 / 2)), "at: 2 given for 4 hypotheses", fixed = TRUE)
+    # a level at a weight that no hypothesis has
+    for (at in list(-1, 0, 2, 50, "x", NA)) {
+      fault <- paste0("^at: the weight of H1 is ", at, ", and not above 0 and at most 1$")
+      expect_error(graph_stages(pair(), list(H1 = 0.001, H2 = 0.001), at = at), fault)
+    }
+    expect_error(graph_stages(pair(), list(H1 = -0.001, H2 = -0.001), at = c(1, -1)), "at: the weight of H2 is -1, and not above 0", fixed = TRUE)
   })
 })
 
