@@ -171,6 +171,22 @@ test_that("a graph that was changed is decided as it is", {
     graph$components[[1]]$weights[] <- c("1", "0")
     expect_equal(graph_test(graph, c(0.02, 0.9))$exact$weight, c("1", "1"))
     expect_match(graph_canon(graph)[3], "weights 1 0")
+    # weights and edges are taken in their order
+    turned <- graph
+    turned$components[[1]]$weights <- c(H2 = "1", H1 = "0")
+    expect_error(graph_test(turned, c(0.02, 0.9)), "^graph: its weights and edges have the names H2, H1, and its hypotheses H1, H2$")
+    turned <- graph
+    turned$components[[1]]$edges <- turned$components[[1]]$edges[, 2:1]
+    expect_error(graph_canon(turned), "graph: its weights and edges have the names H2, H1", fixed = TRUE)
+    after <- graph_update(diabetes(), "H1")$updated_graph
+    after$components[[1]]$weights <- rev(after$components[[1]]$weights)
+    expect_error(graph_test_many(after, matrix(0.1, 2, 3)), "graph: its weights and edges have the names H4, H3, H2", fixed = TRUE)
+    # a double that is assigned is a text of 15 digits
+    graph$components[[1]]$weights["H1"] <- 1 / 3
+    expect_warning(graph_canon(graph), "graph: \"0.333333333333333\" is what R writes for 1/3", fixed = TRUE, class = "welungad_written")
+    graph$components[[1]]$weights <- unname(graph$components[[1]]$weights)
+    graph$components[[1]]$weights[1] <- "1/3"
+    expect_match(graph_canon(graph)[3], "weights 1/3 0")
   })
 })
 
