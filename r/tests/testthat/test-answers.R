@@ -63,6 +63,27 @@ test_that("so it is for each command", {
   })
 })
 
+test_that("the reply to a study has one to each look", {
+  case <- welungad:::handed("", list(names = c("H1", "H2")), looks = data.frame(name = c("H1", "H2", "H1"), stage = c(1, 1, 2)))
+  lines <- c("alpha 1/40", "records 2", "look H1 1 1/100", "reject H1 stage 1 weight 1/2", "refused 2: known", "look H1 2 1/2",
+    "show looks 4 rejected H1", "end")
+  read <- function(lines, looks = case$looks) {
+    case$looks <- looks
+    welungad:::read_answer("study", 0L, lines, case)
+  }
+  expect_equal(read(lines)[c("records", "taken", "rejected", "arrival")], list(records = 2L, taken = 4L, rejected = c(TRUE, FALSE), arrival = 1L))
+  for (k in setdiff(seq_along(lines), 4)) expect_null(read(lines[-k]), info = lines[k])
+  for (k in c(3, 5, 6)) expect_null(read(lines[c(seq_len(k), k:8)]), info = lines[k])
+  expect_null(read(lines[c(1, 2, 6, 5, 3, 4, 7, 8)]))
+  for (change in list(c("look H1 1", "look H2 1"), c("look H1 2", "look H1 3"), c("refused 2", "refused 3"), c("refused 2", "refused 02"),
+    c("refused 2:", "refused x:"), c("looks 4", "looks 3"), c("looks 4", "looks x"), c("records 2", "records"), c("records 2", "records 2 2"),
+    c("weight 1/2", "weight"), c("reject H1", "reject H3"), c("rejected H1", "rejected H3"))) {
+    expect_null(read(sub(change[1], change[2], lines, fixed = TRUE)), info = change[2])
+  }
+  expect_null(read(lines, case$looks[1:2, ]))
+  expect_null(read(lines, rbind(case$looks, case$looks[1, ])))
+})
+
 test_that("a program that a signal ends is not taken for its status", {
   each_way(function(way) {
     graph <- pair()
