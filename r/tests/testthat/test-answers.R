@@ -57,7 +57,11 @@ test_that("so it is for each command", {
     expect_null(read(canon[-1]))
     expect_null(read(sub("^weights .*", "weights 1", canon)))
     first <- sub("^evidence 2", "evidence 1", evidence$evidence[!grepl("^(keep|exit)", evidence$evidence)])
-    expect_equal(graph_check(graph, p, evidence = first)$listed, "H1")
+    for (before in list(NULL, "", "# by a reviewer", c(" \t", "  # evidence 2"), "# one line\n", "#\xff")) {
+      expect_equal(graph_check(graph, p, evidence = c(before, first))$listed, "H1")
+      expect_equal(graph_check(graph, p, evidence = c(before, evidence$evidence))$kept, "H2")
+    }
+    expect_equal(graph_check(graph, p, evidence = paste0(first, "\r", collapse = "\n"))$listed, "H1")
     with_program("/bin/true", expect_error(pair(), "gives no whole answer of Welungad to canon"))
     with_program("/bin/true", expect_error(graph_catalogue("holm", 3), "gives no whole answer of Welungad to catalogue"))
   })
