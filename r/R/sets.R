@@ -139,7 +139,9 @@ bound_of <- function(x, hypotheses) {
   if (!inherits(x, "welungad_bounds")) stop_at("x", "a result of graph_bounds or graph_simes is needed")
   set <- unique(positions_of(x$graph, hypotheses, "hypotheses"))
   if (length(set) == 0) return(0L)
-  x$bound[match(codes_of(list(set)), codes_of(x$sets))]
+  at <- match(codes_of(list(set)), codes_of(x$sets))
+  if (is.na(at)) stop_at("hypotheses", "this set is not among the ", count_of(length(x$sets), "set"), " of x")
+  x$bound[at]
 }
 
 as.data.frame.welungad_bounds <- function(x, ...) {
