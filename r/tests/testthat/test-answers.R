@@ -93,6 +93,18 @@ test_that("a program that a signal ends is not taken for its status", {
     graph <- pair()
     with_program(stand_in("keeper fault", -9), expect_error(graph_test(graph, c(0.1, 0.2)), "was ended by signal 9"))
     with_program(stand_in("", 77), expect_error(graph_test(graph, c(0.1, 0.2)), "can't be run: it ends with 77"))
+    # an interrupt of the program is one of R
+    said <- function(code) tryCatch(code, interrupt = function(i) "interrupted", error = conditionMessage)
+    with_program(stand_in("usage: word 1", -2), expect_equal(said(graph_test(graph, c(0.1, 0.2))), "interrupted"))
+    with_program(stand_in("usage: word 1", -2), expect_equal(said(graph_test_many(graph, matrix(0.1, 3, 2))), "interrupted"))
+    x <- graph_test(graph, c(0.1, 0.2))
+    # one that comes after the program has answered, or while the shell begins
+    lines <- c("#!/bin/sh", "kill -2 $PPID", paste("echo", shQuote(x$report)))
+    program <- stand_in("")
+    writeLines(lines, program)
+    with_program(program, expect_equal(said(graph_test(graph, c(0.1, 0.2))), "interrupted"))
+    writeLines(lines[-2], program)
+    with_program(program, expect_equal(said(graph_test(graph, c(0.1, 0.2)))$report, x$report))
   })
 })
 
