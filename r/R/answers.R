@@ -49,7 +49,7 @@ read_answer <- function(command, status, lines, case) {
     evidence = read_evidence(lines, names, length(case$graph$components)),
     check = read_yes(lines, names, case$version),
     stages = read_stages(lines, names, case$looks),
-    study = read_study(lines, names)
+    study = read_study(lines, names, case$looks)
   )
 }
 
@@ -168,27 +168,38 @@ read_stages <- function(lines, names, looks) {
     rejected = names %in% rejects[2, ])
 }
 
-# The reply to the commands of a study, of which the last is show.
-read_study <- function(lines, names) {
+# The reply to the commands of a study: to a look for each row of `given`, and to show.
+read_study <- function(lines, names, given) {
   count <- length(lines)
-  shown <- if (count >= 4) words_after_first(lines[count - 1])
-  if (count < 4 || !startsWith(lines[1], "alpha ") || !startsWith(lines[2], "records ") || !startsWith(lines[count - 1], "show looks ")) return(NULL)
+  if (count < 4 || !all(startsWith(lines[c(1, 2, count - 1)], c("alpha ", "records ", "show looks ")))) return(NULL)
   own <- lines[seq_len(count - 4) + 2L]
   looks <- columns_of(own[startsWith(own, "look ")], 4L)
   rejects <- columns_of(own[startsWith(own, "reject ")], 6L)
   refused <- columns_of(own[startsWith(own, "refused ")], 3L)
   if (is.null(looks) || is.null(rejects) || is.null(refused) || length(own) != ncol(looks) + ncol(rejects) + ncol(refused)) return(NULL)
-  if (!all(c(looks[2, ], rejects[2, ], shown[-(1:3)]) %in% names)) return(NULL)
+  shown <- words_after_first(lines[count - 1])
+  rejected <- shown[-(1:3)]
+  if (!all(c(rejects[2, ], rejected) %in% names) || !are_replies(looks, refused, given)) return(NULL)
+  counts <- c(words_after_first(lines[2]), shown[2])
+  if (length(counts) != 2 || !all(is_whole(counts)) || diff(as.integer(counts)) != ncol(looks)) return(NULL)
   list(
     alpha = words_after_first(lines[1]),
-    records = as.integer(words_after_first(lines[2])),
-    taken = as.integer(shown[2]),
-    rejected = names %in% shown[-(1:3)],
+    records = as.integer(counts[1]),
+    taken = as.integer(counts[2]),
+    rejected = names %in% rejected,
     looks = looks,
     rejects = rejects,
     arrival = cumsum(startsWith(own, "look "))[startsWith(own, "reject ")],
     refused = refused
   )
+}
+
+# Whether each look that was given is either taken or refused, in order.
+are_replies <- function(looks, refused, given) {
+  rows <- match(refused[2, ], sprintf("%.0f:", seq_along(given$name)))
+  if (anyNA(rows) || is.unsorted(rows, strictly = TRUE)) return(FALSE)
+  is_taken <- !seq_along(given$name) %in% rows
+  identical(looks[2, ], given$name[is_taken]) && identical(looks[3, ], whole_text(given$stage[is_taken]))
 }
 
 # ---- cases

@@ -33,7 +33,7 @@ arranged <- function(x, keys, what, count = NULL) {
     return(x[places_among(given, keys, what)])
   }
   if (!is.null(count) && length(x) != count) {
-    stop_at(what, whole_text(length(x)), " given for ", whole_text(count), if (count == 1) " hypothesis" else " hypotheses")
+    stop_at(what, whole_text(length(x)), " given for ", count_of_hypotheses(count))
   }
   x
 }
@@ -66,9 +66,9 @@ vector_of_frame <- function(x, what) {
 # The numbers of a data frame, column by column, since R turns a whole one with a column of texts into texts of 7 digits.
 exact_frame <- function(x, what) {
   columns <- lapply(seq_along(x), column_of, x = x, what = what)
-  part <- function(name) unlist(lapply(columns, `[[`, name))
   rows <- attr(x, "row.names")
-  new_exact(part("given"), part("read"), part("rule"), NULL, dim(x), list(if (is.character(rows)) rows, names(x)))
+  new_exact(joined(columns, "given"), joined(columns, "read"), joined(columns, "rule"), NULL, dim(x),
+    list(if (is.character(rows)) rows, names(x)))
 }
 
 column_of <- function(x, j, what) {

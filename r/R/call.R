@@ -83,14 +83,32 @@ file_word <- function(words) {
   if (at <= length(words)) at else NA_integer_
 }
 
-# Starts the program and returns its status. The shell reports a program that a signal ended as 128 and the signal's number.
+# Starts the program and returns its status.
 start_program <- function(program, words, input, output) {
-  script <- "\"$@\"; exit $?"
-  quoted <- shQuote(c("-c", script, "sh", program, words))
-  status <- suppressWarnings(system2("/bin/sh", quoted, stdin = input, stdout = output, stderr = FALSE))
+  status <- run_words(c(program, words), stdin = input, stdout = output)
   if (status > 128 && status < 160) stop("the program ", program, " was ended by signal ", status - 128, call. = FALSE)
-  if (!status %in% 0:10) stop("the program ", program, " can't be run: it ends with ", status, call. = FALSE)
+  if (!status %in% 0:10 || !file.exists(output)) stop("the program ", program, " can't be run: it ends with ", status, call. = FALSE)
   as.integer(status)
+}
+
+# Runs words as a command with these files, and returns its status: 128 and the number of a signal that ended it. A terminal sends an
+# interrupt to the command, to the shell and to R, and R does not see it while it waits. So the shell notes it, and R is interrupted then.
+# The shell adds 100 to each status, since R returns the number of a signal that ended the shell itself as if it were a status.
+run_words <- function(words, stdin = "/dev/null", stdout = "/dev/null", stderr = "/dev/null") {
+  command <- paste(c(shQuote(words), "<", shQuote(stdin), ">", shQuote(stdout), "2>", shQuote(stderr)), collapse = " ")
+  interrupted <- 128L + tools::SIGINT
+  note <- paste0("interrupted=; trap 'interrupted=", interrupted, "' INT; ")
+  status <- suppressWarnings(system(paste0(note, command, "; status=$?; exit $((${interrupted:-$status} + 100))")))
+  if (status %in% c(tools::SIGINT, interrupted + 100L)) interrupt(words[1])
+  # 127 is of a shell that cannot be started
+  if (status == 127L) status else (status - 100L) %% 256L
+}
+
+# Interrupts R, as the command was.
+interrupt <- function(command) {
+  tools::pskill(Sys.getpid(), tools::SIGINT)
+  Sys.sleep(1) # which ends at once, unless this session ignores interrupts
+  stop(command, " was interrupted", call. = FALSE)
 }
 
 text_of_file <- function(path) {

@@ -25,7 +25,21 @@ component_lines <- function(component, names, one) {
 graph_text <- function(graph) {
   kept <- graph$written
   if (!is.null(kept) && identical(kept$names, graph$names) && identical(kept$components, graph$components)) return(kept)
+  check_order(graph)
+  if (!is.null(kept)) warn_written(unlist(lapply(graph$components, function(it) c(it$weights, it$edges))), "graph")
   write_graph(graph)
+}
+
+# Stops if the weights or the edges of a graph, which are written in their order, have other names than its hypotheses, or have them in
+# another order.
+check_order <- function(graph) {
+  for (component in graph$components) {
+    for (given in c(list(names(component$weights)), dimnames(component$edges))) {
+      if (!is.null(given) && !identical(given, graph$labels) && !identical(given, graph$names)) {
+        stop_at("graph", "its weights and edges have the names ", listed(given, 4L), ", and its hypotheses ", listed(graph$labels, 4L))
+      }
+    }
+  }
 }
 
 write_graph <- function(graph) {

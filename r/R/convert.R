@@ -16,10 +16,15 @@ graph_of_list <- function(x) {
   graph_create(field_of(parts, "hypotheses"), field_of(parts, "transitions"))
 }
 
-# gMCP: an object with the slots m and weights. Its edges are numbers, or texts with epsilon.
+# gMCP: an object with the slots m and weights. Its edges are numbers, or texts with epsilon. It can mark hypotheses as rejected, which
+# here would be hypotheses without weight.
 graph_of_slots <- function(x) {
   edges <- field_of(attributes(x), "m")
   weights <- field_of(attributes(x), "weights")
+  rejected <- which(as.logical(attributes(x)$nodeAttr$rejected))
+  if (length(rejected)) {
+    stop_at("x", place_text(rejected[1], rownames(edges)), " is marked as rejected: give the graph from before its rejection")
+  }
   if (is.null(names(weights))) names(weights) <- rownames(edges)
   graph_create(weights, edges)
 }

@@ -1,7 +1,7 @@
 # Evidence for a decision, and its check.
 
 graph_evidence <- function(graph, p, alpha = 0.025, priority = c("first", "last", "ratio")) {
-  priority <- match.arg(priority)
+  priority <- chosen(priority, priorities, "priority")
   case <- case_of(graph, p, alpha)
   evidence <- ask(c("evidence", if (priority != "first") c("--priority", priority)), case)
   structure(list(evidence = evidence$lines, case = ask("canon", case)$lines, graph = graph), class = "welungad_evidence")
@@ -10,8 +10,10 @@ graph_evidence <- function(graph, p, alpha = 0.025, priority = c("first", "last"
 graph_check <- function(graph, p, alpha = 0.025, evidence) {
   case <- case_of(graph, p, alpha)
   if (inherits(evidence, "welungad_evidence")) evidence <- evidence$evidence
-  if (!is.character(evidence) || anyNA(evidence) || length(evidence) == 0) stop_at("evidence", "a result of graph_evidence or the lines of a document are needed")
-  case$version <- if (grepl("^\\s*evidence\\s+1\\s*$", evidence[1])) 1L else 2L
+  if (!is.character(evidence) || anyNA(evidence) || length(evidence) == 0) {
+    stop_at("evidence", "a result of graph_evidence or the lines of a document are needed")
+  }
+  case$version <- if (is_first_version(evidence)) 1L else 2L
   found <- ask(c("check", "evidence"), case, paste0(evidence, "\n", collapse = ""))
   structure(list(
     yes = found$yes,
@@ -20,6 +22,13 @@ graph_check <- function(graph, p, alpha = 0.025, evidence) {
     reason = found$reason,
     report = found$lines
   ), class = "welungad_check")
+}
+
+# Whether a document is of version 1, by its first line that is neither blank nor a comment.
+is_first_version <- function(evidence) {
+  lines <- unlist(strsplit(evidence, "\n", fixed = TRUE, useBytes = TRUE))
+  lines <- lines[!grepl("^[ \t]*(#|\r?$)", lines, useBytes = TRUE)]
+  length(lines) > 0 && grepl("^[ \t]*evidence[ \t]+1[ \t]*\r?$", lines[1], useBytes = TRUE)
 }
 
 format.welungad_evidence <- function(x, ...) x$evidence

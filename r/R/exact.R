@@ -14,34 +14,100 @@ dimnames.welungad_exact <- function(x) x$dimnames
 
 names.welungad_exact <- function(x) x$names
 
-`names<-.welungad_exact` <- function(x, value) new_exact(x$given, x$read, x$rule, value, x$dim, x$dimnames)
+`names<-.welungad_exact` <- function(x, value) new_exact(x$given, x$read, x$rule, names_given(value, length(x)), x$dim, x$dimnames)
+
+# Names as R takes them: texts, of which the last may lack.
+names_given <- function(value, count) {
+  if (is.null(value)) return(NULL)
+  if (length(value) > count) stop_at("names", whole_text(length(value)), " given for ", count_of(count, "number"))
+  as.character(value)[seq_len(count)]
+}
 
 `dimnames<-.welungad_exact` <- function(x, value) new_exact(x$given, x$read, x$rule, x$names, x$dim, value)
 
-`[.welungad_exact` <- function(x, i, j, drop = TRUE) {
-  if (nargs() - (!missing(drop)) > 2) return(part_of_matrix(x, i, j))
-  at <- seq_along(x$read)
-  names(at) <- x$names
-  if (!missing(i)) at <- at[i]
-  if (anyNA(at)) stop("no number has this name or place", call. = FALSE)
-  new_exact(x$given[at], x$read[at], x$rule[at], x$names[at])
+is.na.welungad_exact <- function(x) {
+  out <- is.na(x$read)
+  if (length(x$dim) > 1) array(out, x$dim, x$dimnames) else stats::setNames(out, x$names)
 }
 
-# Rows and columns of a matrix; one row or column becomes a vector.
-part_of_matrix <- function(x, i, j) {
-  if (length(x$dim) != 2) stop("these numbers have no rows and columns", call. = FALSE)
-  at <- matrix(seq_along(x$read), x$dim[1], dimnames = x$dimnames)[i, j]
-  own <- as.vector(at)
-  new_exact(x$given[own], x$read[own], x$rule[own], if (is.null(dim(at))) names(at), dim(at), dimnames(at))
+anyNA.welungad_exact <- function(x, recursive = FALSE) anyNA(x$read)
+
+# ---- parts
+
+# The places of the numbers, with their names, or in rows and columns.
+places_of <- function(x) {
+  places <- seq_along(x$read)
+  if (length(x$dim) > 1) return(array(places, x$dim, x$dimnames))
+  names(places) <- x$names
+  places
 }
+
+# The places in rows and columns.
+table_places <- function(x) {
+  if (length(x$dim) != 2) stop("these numbers have no rows and columns", call. = FALSE)
+  places_of(x)
+}
+
+# Places as a vector. Stops at one where there is no number.
+known_places <- function(places) {
+  if (anyNA(places)) stop("no number has this name or place", call. = FALSE)
+  as.vector(places)
+}
+
+# Numbers at places, with the names, or the rows and columns, that the places have.
+numbers_at <- function(x, places) {
+  at <- known_places(places)
+  new_exact(x$given[at], x$read[at], x$rule[at], if (is.null(dim(places))) names(places), dim(places), dimnames(places))
+}
+
+`[.welungad_exact` <- function(x, i, j, drop = TRUE) {
+  if (nargs() - (!missing(drop)) > 2) return(numbers_at(x, table_places(x)[i, j, drop = drop]))
+  if (missing(i)) x else numbers_at(x, places_of(x)[i])
+}
+
+# One number.
+`[[.welungad_exact` <- function(x, ...) {
+  found <- x[...]
+  check_single(found)
+  unname(found)
+}
+
+as.list.welungad_exact <- function(x, ...) lapply(stats::setNames(seq_along(x), x$names), function(i) x[[i]])
+
+check_single <- function(x) if (length(x) != 1) stop("[[ takes one number, and not ", whole_text(length(x)), call. = FALSE)
+
+# Numbers are changed at their places, where nothing is recycled but a single number. What is assigned is read as any other number.
+`[<-.welungad_exact` <- function(x, i, j, value) {
+  at <- known_places(if (nargs() > 3) table_places(x)[i, j] else if (missing(i)) places_of(x) else places_of(x)[i])
+  value <- exact_of(value, "value")
+  if (!length(value) %in% c(1L, length(at))) stop_at("value", whole_text(length(value)), " given for ", count_of(length(at), "number"))
+  from <- rep_len(seq_along(value$read), length(at))
+  new_exact(replace(x$given, at, value$given[from]), replace(x$read, at, value$read[from]), replace(x$rule, at, value$rule[from]),
+    x$names, x$dim, x$dimnames)
+}
+
+`[[<-.welungad_exact` <- function(x, ..., value) {
+  check_single(x[...])
+  x[...] <- value
+  x
+}
+
+# What is shown and what is read belong together, so no part is changed alone.
+`$<-.welungad_exact` <- function(x, name, value) {
+  stop("numbers that were read are changed by their names or places: x[\"H1\"] <- value", call. = FALSE)
+}
+
+rep.welungad_exact <- function(x, ...) x[rep(seq_along(x), ...)]
 
 c.welungad_exact <- function(...) {
   parts <- lapply(list(...), exact_of, what = "c")
-  joined <- function(part) unlist(lapply(parts, `[[`, part))
-  own <- lapply(parts, function(it) if (is.null(it$names)) rep("", length(it$read)) else it$names)
-  named <- any(nzchar(unlist(own)))
-  new_exact(joined("given"), joined("read"), joined("rule"), if (named) unlist(own))
+  # names as R makes them, also of the arguments
+  places <- unlist(lapply(parts, function(it) stats::setNames(seq_along(it$read), it$names)))
+  new_exact(joined(parts, "given"), joined(parts, "read"), joined(parts, "rule"), names(places))
 }
+
+# A part of several numbers that were read, one after the other.
+joined <- function(numbers, part) unlist(lapply(numbers, function(it) unclass(it)[[part]]), use.names = FALSE)
 
 as.character.welungad_exact <- function(x, ...) stats::setNames(x$read, x$names)
 

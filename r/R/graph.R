@@ -85,7 +85,9 @@ graph_entangle <- function(..., shares) {
   }
   first <- graphs[[1]]
   for (graph in graphs) {
-    if (!identical(graph[c("names", "labels")], first[c("names", "labels")])) stop_at("...", "the graphs have the same hypotheses in the same order")
+    if (!identical(graph[c("names", "labels")], first[c("names", "labels")])) {
+      stop_at("...", "the graphs have the same hypotheses in the same order")
+    }
     if (length(graph$components) != 1) stop_at("...", "a graph that is entangled already can't be entangled again")
   }
   shares <- arranged_shares(shares, graphs)
@@ -111,7 +113,7 @@ arranged_shares <- function(shares, graphs) {
 catalogue_names <- c("holm", "fixed-sequence", "fallback", "parallel", "improved-parallel")
 
 graph_catalogue <- function(name, size, second = NULL) {
-  name <- match.arg(name, catalogue_names)
+  name <- chosen(name, catalogue_names, "name")
   if ((name %in% c("parallel", "improved-parallel")) == is.null(second)) {
     stop_at("second", "the number of secondary hypotheses is ", if (is.null(second)) "needed" else "not used", " for ", name)
   }
@@ -128,10 +130,12 @@ graph_catalogue <- function(name, size, second = NULL) {
 }
 
 graph_read <- function(file, form = c("text", "csv", "json"), alpha = NULL) {
-  form <- match.arg(form)
+  form <- chosen(form, c("text", "csv", "json"), "form")
   if (!is.character(file) || length(file) != 1 || !file.exists(file) || dir.exists(file)) {
     stop_at("file", "there is no file ", if (is.character(file)) quoted(file[1]) else "of this name")
   }
+  if (form == "csv" && is.null(alpha)) stop_at("alpha", "a case of the form csv has no level of its own, so one is needed")
+  if (form != "csv" && !is.null(alpha)) stop_at("alpha", "a case of the form ", form, " has a level of its own")
   bytes <- readBin(file, "raw", file.size(file))
   words <- c("canon", if (form != "text") c("--form", form), if (!is.null(alpha)) c("--alpha", level_of(alpha)))
   case <- ask(words, handed(bytes))
@@ -215,9 +219,8 @@ as.data.frame.welungad_graph <- function(x, ..., exact = FALSE) {
 }
 
 format.welungad_graph <- function(x, ...) {
-  n <- length(x$names)
   components <- length(x$components)
-  paste0("Graph of ", n, if (n == 1) " hypothesis" else " hypotheses", if (components > 1) paste(" with", components, "components"))
+  paste0("Graph of ", count_of_hypotheses(length(x$names)), if (components > 1) paste(" with", components, "components"))
 }
 
 # A row for each hypothesis: its weight over all graphs, and how many edges leave it and lead to it.

@@ -77,8 +77,8 @@ report_many_rounded <- function(P) {
   at <- small[read_doubles(P[small], "P")$rule == rounded_up]
   rows <- sort(unique((at - 1) %% nrow(P) + 1))
   if (length(at)) {
-    say_rounded(paste0("P: ", whole_text(length(at)), if (length(at) == 1) " p-value was" else " p-values were",
-      " rounded up to a multiple of 10^-30: row ", listed(whole_text(rows))))
+    say_rounded(paste0("P: ", count_of(length(at), "p-value was", "p-values were"), " rounded up to a multiple of 10^-30: row ",
+      listed(whole_text(rows))))
   }
 }
 
@@ -132,7 +132,7 @@ progress_over <- function(rows) {
 report_wide <- function(out) {
   wide <- which(is.na(out[, 1]))
   if (length(wide)) {
-    warn("welungad_wide", "P", length(wide), if (length(wide) == 1) " row is" else " rows are", " NA, since numbers of the run are ",
-      "too wide: row ", listed(whole_text(wide)))
+    warn("welungad_wide", "P", count_of(length(wide), "row is", "rows are"), " NA, since numbers of the run are too wide: row ",
+      listed(whole_text(wide)))
   }
 }

@@ -47,7 +47,7 @@ check_encoding <- function(x, what) {
 names_in <- function(x) {
   own <- names(x)
   if (length(own) > length(x)) own <- own[seq_along(x)]
-  if (inherits(x, c("bigq", "bigz")) && anyNA(own)) NULL else own
+  if (inherits(x, c("bigq", "bigz")) && all(is.na(own))) NULL else own
 }
 
 # The numerators `n` and denominators `d` of the fractions with d up to 10,000 at the doubles, or at most `room` beside them.
@@ -121,8 +121,8 @@ ten_to <- function(n) gmp::as.bigz(10)^n
 
 # ---- numbers that R had turned into texts, and doubles beside fractions
 
-# Warns of texts that R writes for a fraction: of 7 digits, as format() and as.matrix() of a data frame write, and of 15, as
-# paste() does. Nearly each text of 7 digits is beside a fraction with a denominator of 10,000, so for them it is 1,000.
+# Warns of texts that R writes for a fraction: with 7 digits, as format() and as.matrix() of a data frame do, with 15, as paste() does, or
+# with up to 17, from which the same double is read. R drops zeros at the end.
 warn_written <- function(texts, what) {
   long <- which(nchar(texts) >= 7 & grepl("^-?[0-9]*[.][0-9]+(e[-+]?[0-9]+)?\\z", texts, perl = TRUE))
   if (length(long) == 0) return(invisible())
@@ -138,14 +138,18 @@ warn <- function(class, what, ...) {
   warning(structure(class = c(class, "warning", "condition"), list(message = text, call = NULL)))
 }
 
+# The most denominator of a fraction for which R writes a text of so many digits. Nearly each text of 7 digits is beside a fraction with a
+# denominator of 10,000, so for them it is less; and still less for 6 digits, as people write them.
+most_written <- c(rep(0, 5), 100, 1000, rep(10000, 10))
+
 # The fraction for which R writes each decimal, NA if it writes it for none, or if the decimal is the fraction.
 written_fractions <- function(texts) {
   x <- as.numeric(texts)
   digits <- nchar(gsub("[^0-9]", "", sub("^-?0*[.]?0*", "", sub("e.*", "", texts))))
-  most <- ifelse(digits == 15, 10000, ifelse(digits == 7, 1000, 0))
-  near <- small_fractions(x, 10^(floor(log10(abs(x))) + 1 - digits))
-  at <- which(near$d <= most & near$n != 0)
-  written <- as.numeric(decimal_text(near$n[at] / near$d[at], digits[at])) == x[at]
+  wanted <- ifelse(digits <= 7, 7, ifelse(digits <= 15, 15, 17))
+  near <- small_fractions(x, ifelse(digits > 15, 0, 10^(floor(log10(abs(x))) + 1 - wanted)))
+  at <- which(digits >= 1 & near$d <= most_written[pmax(digits, 1)] & near$n != 0)
+  written <- as.numeric(decimal_text(near$n[at] / near$d[at], wanted[at])) == x[at]
   meant <- quotient_of(near$n[at], near$d[at])
   found <- rep(NA_character_, length(texts))
   found[at] <- ifelse(written & as.logical(fraction(meant) != fraction(texts[at])), meant, NA)
@@ -184,8 +188,8 @@ exact_to_total <- function(x, total) {
   read <- exact_of(x, "x")
   found <- beside(read$read)
   moved <- which(!is.na(found$fraction) & read$rule == "shortest decimal")
-  read$read[moved] <- found$fraction[moved]
-  read$rule[moved] <- "beside a small fraction"
+  read <- new_exact(read$given, replace(read$read, moved, found$fraction[moved]), replace(read$rule, moved, "beside a small fraction"),
+    read$names, read$dim, read$dimnames)
   rows <- if (length(read$dim) == 2) split(seq_along(read$read), rep(seq_len(read$dim[1]), read$dim[2])) else list(seq_along(read$read))
   for (i in seq_along(rows)) {
     values <- fraction(read$read[rows[[i]]])

@@ -49,7 +49,7 @@ columns_for <- function(n, page) {
 titles_without <- function(deleted) {
   n <- length(deleted)
   if (n == 0) return("at the start")
-  c(paste("without", paste(deleted, collapse = ", ")), paste("without", n, if (n == 1) "hypothesis" else "hypotheses"))
+  c(paste("without", paste(deleted, collapse = ", ")), paste("without", count_of_hypotheses(n)))
 }
 
 # Draws a graph; `all` has the hypotheses that have a place, and those that the graph lacks are drawn as removed. `main` has titles, of

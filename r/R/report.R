@@ -59,7 +59,7 @@ run_script <- function(name, words) {
 
 # Runs python3 without the user's own settings, so that no other module is taken for a part of the script, and returns its status.
 start_python <- function(python, words, said) {
-  suppressWarnings(system2(python, shQuote(c("-B", "-E", "-s", words)), stdout = FALSE, stderr = said))
+  run_words(c(python, "-B", "-E", "-s", words), stderr = said)
 }
 
 # The folders in which the scripts may be: of the installation, or of the checkout, that has the program.
@@ -83,7 +83,7 @@ python_path <- function() {
   found <- unname(Sys.which(if (nzchar(named)) named else "python3"))
   cure <- "let the environment variable WELUNGAD_PYTHON name it, or put it on the path"
   if (!nzchar(found)) stop("a page needs python3, 3.9 or later, which is not found: ", cure, call. = FALSE)
-  is_late <- start_python(found, c("-c", "import sys; sys.exit(sys.version_info < (3, 9))"), FALSE) == 0
+  is_late <- start_python(found, c("-c", "import sys; sys.exit(sys.version_info < (3, 9))"), "/dev/null") == 0
   if (!is_late) stop("a page needs python3, 3.9 or later, and ", found, " is not: ", cure, call. = FALSE)
   found
 }

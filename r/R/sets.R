@@ -84,8 +84,7 @@ as.data.frame.welungad_closure <- function(x, ..., exact = FALSE) {
 }
 
 format.welungad_closure <- function(x, ...) {
-  paste0("Closed test of ", length(x$sets), if (length(x$sets) == 1) " intersection" else " intersections", " at level ",
-    level_text(x$alpha))
+  paste0("Closed test of ", count_of(length(x$sets), "intersection"), " at level ", level_text(x$alpha))
 }
 
 summary.welungad_closure <- function(object, ...) {
@@ -104,7 +103,7 @@ print.welungad_closure <- function(x, exact = FALSE, digits = 4, most = 64, ...)
   colnames(texts) <- c("intersection", paste("level", x$graph$labels), "local", "closed")
   texts[is.na(texts)] <- ""
   write_table(texts)
-  if (rest > 0) cat("  and", rest, "more intersections, which as.data.frame has\n")
+  if (rest > 0) cat("  and ", count_of(rest, "more intersection"), ", which as.data.frame has\n", sep = "")
   print_rejected(x)
   invisible(x)
 }
@@ -140,7 +139,9 @@ bound_of <- function(x, hypotheses) {
   if (!inherits(x, "welungad_bounds")) stop_at("x", "a result of graph_bounds or graph_simes is needed")
   set <- unique(positions_of(x$graph, hypotheses, "hypotheses"))
   if (length(set) == 0) return(0L)
-  x$bound[match(codes_of(list(set)), codes_of(x$sets))]
+  at <- match(codes_of(list(set)), codes_of(x$sets))
+  if (is.na(at)) stop_at("hypotheses", "this set is not among the ", count_of(length(x$sets), "set"), " of x")
+  x$bound[at]
 }
 
 as.data.frame.welungad_bounds <- function(x, ...) {
@@ -168,7 +169,7 @@ print.welungad_bounds <- function(x, most = 64, ...) {
   rest <- length(x$sets) - most
   table <- as.data.frame(if (rest > 0) x[seq_len(most)] else x)
   write_table(cbind(set = table$set, size = table$size, bound = table$bound))
-  if (rest > 0) cat("  and", rest, "more sets, which as.data.frame has\n")
+  if (rest > 0) cat("  and ", count_of(rest, "more set"), ", which as.data.frame has\n", sep = "")
   if (!is.null(x$top)) {
     bounds <- paste(x$top, collapse = " ")
     cat("Bounds of the hypotheses with the least p-values, 1 to ", length(x$top), ": ", bounds, "\n", sep = "")

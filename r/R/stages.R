@@ -2,15 +2,17 @@
 
 graph_stages <- function(graph, levels, looks = NULL, alpha = 0.025, at = 1) {
   check_graph(graph)
-  alpha <- exact_of(alpha, "alpha")
-  plan <- stage_plan(graph, levels, level_text_of(alpha), at)
+  alpha <- level_text_of(exact_of(alpha, "alpha"))
+  # of a level that is not above 0 there are no fractions, and the proved call refuses it
+  if (!isTRUE(as.logical(fraction(alpha) > 0))) ask("canon", handed(case_text(graph, alpha), graph))
+  plan <- stage_plan(graph, levels, alpha, at)
   looks <- read_looks(graph, looks)
   lines <- c(
     paste("stages", whole_text(plan$count)),
     unlist(lapply(plan$spends, `[[`, "lines")),
     if (nrow(looks)) paste("arrive", looks$name, whole_text(looks$stage), looks$read)
   )
-  text <- case_text(graph, level_text_of(alpha), stages = lines)
+  text <- case_text(graph, alpha, stages = lines)
   case <- handed(text, graph, levels = stats::setNames(lapply(plan$spends, `[[`, "rows"), graph$names), looks = looks)
   new_stages(graph, plan, looks, ask("stages", case), text)
 }
@@ -20,11 +22,12 @@ stage_plan <- function(graph, levels, alpha, at) {
   levels <- arranged(levels_by_hypothesis(levels, graph), hypothesis_keys(graph), "levels", length(graph$names))
   from <- exact_vector(at, "at")
   if (is.null(from$names) && length(from) == 1) from <- from[rep(1L, length(graph$names))]
-  from <- number_texts(arranged(from, hypothesis_keys(graph), "at", length(graph$names)), "at")
+  from <- arranged(from, hypothesis_keys(graph), "at", length(graph$names))
+  check_weights(number_texts(from, "at"), graph)
   spends <- Map(function(name, label, own, from) {
     what <- paste0("levels: ", quoted(label))
     if (length(dim(own)) == 2) spend_table(name, what, own, alpha) else spend_list(name, what, own, alpha, from)
-  }, graph$names, graph$labels, unname(levels), from)
+  }, graph$names, graph$labels, unname(levels), from$read)
   counts <- unname(vapply(spends, `[[`, 1L, "count"))
   other <- which(counts != counts[1])
   if (length(other)) {
@@ -32,6 +35,13 @@ stage_plan <- function(graph, levels, alpha, at) {
       whole_text(counts[1]))
   }
   list(count = counts[1], spends = unname(spends))
+}
+
+# Stops at a weight, in the order of the hypotheses, that is not above 0 and at most 1.
+check_weights <- function(texts, graph) {
+  values <- fraction(texts)
+  wrong <- which(!(as.logical(values > 0) & as.logical(values <= 1)) %in% TRUE)
+  if (length(wrong)) stop_at("at", "the weight of ", graph$labels[wrong[1]], " is ", texts[wrong[1]], ", and not above 0 and at most 1")
 }
 
 # The levels as a list. In a matrix or a data frame that side belongs to the hypotheses that has their names.
@@ -68,7 +78,6 @@ spend_list <- function(name, what, levels, alpha, from) {
   values <- fraction(number_texts(levels, what))
   whole <- fraction(alpha) * fraction(from)
   if (anyNA(values) || length(values) == 0) stop_at(what, "a number is needed for each stage")
-  if (is.na(whole) || whole == 0) stop_at("at", "a weight above 0 is needed, and a level alpha above 0")
   parts <- as.character(values / gmp::as.bigq(rep(whole, length(values))))
   list(
     kind = "spend",
@@ -152,8 +161,8 @@ as.data.frame.welungad_stages <- function(x, ..., exact = FALSE) {
 }
 
 format.welungad_stages <- function(x, ...) {
-  n <- length(x$graph$names)
-  paste0("Staged test of ", n, if (n == 1) " hypothesis" else " hypotheses", " at ", x$plan$count, " stages, level ", level_text(x$alpha))
+  paste0("Staged test of ", count_of_hypotheses(length(x$graph$names)), " at ", count_of(x$plan$count, "stage"), ", level ",
+    level_text(x$alpha))
 }
 
 # The rejections, a row each.

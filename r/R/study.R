@@ -11,7 +11,7 @@ graph_study <- function(case, store, looks = NULL) {
   looks <- read_looks(graph, looks)
   hold_case(canon$lines, store)
   commands <- c(if (nrow(looks)) paste("look", looks$name, whole_text(looks$stage), looks$read), "show")
-  new_study(graph, store, looks, run_study(text$text, graph, store, commands))
+  new_study(graph, store, looks, run_study(handed(text$text, graph, looks = looks), store, commands))
 }
 
 # The text of a case, and its graph if it is known.
@@ -41,7 +41,7 @@ checked_store <- function(store) {
 case_file <- function(store) paste0(store, ".case")
 
 # Stops if the file of looks was made for another case; writes the case beside it if it is the first call. The file of the case
-# appears as a whole or not at all, and is never replaced.
+# appears as a whole or not at all. It is never replaced where files can have links; elsewhere only by a call at the same moment.
 hold_case <- function(lines, store) {
   place <- case_file(store)
   if (!file.exists(place)) {
@@ -80,11 +80,11 @@ program_answer <- function(words, case) {
   ask(words, case)
 }
 
-run_study <- function(text, graph, store, commands) {
+run_study <- function(case, store, commands) {
   file <- tempfile("welungad-commands-")
   on.exit(unlink(file))
   write_whole(charToRaw(paste0(commands, "\n", collapse = "")), file)
-  program_answer(c("study", file, paste0("--store=", store)), handed(text, graph))
+  program_answer(c("study", file, paste0("--store=", store)), case)
 }
 
 new_study <- function(graph, store, looks, report) {
@@ -108,7 +108,7 @@ new_study <- function(graph, store, looks, report) {
 as.data.frame.welungad_study <- function(x, ...) x$looks
 
 format.welungad_study <- function(x, ...) {
-  paste0("Study of ", length(x$graph$names), " hypotheses in ", x$store, ", level ", level_text(x$alpha))
+  paste0("Study of ", count_of_hypotheses(length(x$graph$names)), " in ", x$store, ", level ", level_text(x$alpha))
 }
 
 print.welungad_study <- function(x, digits = 6, ...) {
@@ -117,10 +117,12 @@ print.welungad_study <- function(x, digits = 6, ...) {
   table <- x$rejections
   if (nrow(table)) {
     cat("Rejected by the looks of this call:\n")
-    write_table(cbind(look = table$look, hypothesis = table$hypothesis, stage = table$stage, weight = shown(double_of(table$weight), digits)))
+    write_table(cbind(look = table$look, hypothesis = table$hypothesis, stage = table$stage,
+      weight = shown(double_of(table$weight), digits)))
   }
   for (i in seq_len(nrow(x$refused))) {
-    cat("Not taken: row ", x$refused$row[i], ", ", x$refused$hypothesis[i], " at stage ", x$refused$stage[i], ": ", x$refused$why[i], "\n", sep = "")
+    cat("Not taken: row ", x$refused$row[i], ", ", x$refused$hypothesis[i], " at stage ", x$refused$stage[i], ": ",
+      x$refused$why[i], "\n", sep = "")
   }
   print_rejected(x)
   invisible(x)

@@ -1,7 +1,9 @@
 # Decisions.
 
+priorities <- c("first", "last", "ratio")
+
 graph_test <- function(graph, p, alpha = 0.025, priority = c("first", "last", "ratio")) {
-  priority <- if (missing(priority)) "first" else match.arg(priority)
+  priority <- if (missing(priority)) "first" else chosen(priority, priorities, "priority")
   case <- case_of(graph, p, alpha)
   new_test(ask(c("test", if (priority != "first") c("--priority", priority)), case), priority, case)
 }
@@ -75,8 +77,7 @@ graph_rejections <- function(x, exact = FALSE) {
 }
 
 format.welungad_test <- function(x, ...) {
-  n <- length(x$graph$names)
-  paste0("Graphical test of ", n, if (n == 1) " hypothesis" else " hypotheses", " at level ", level_text(x$alpha),
+  paste0("Graphical test of ", count_of_hypotheses(length(x$graph$names)), " at level ", level_text(x$alpha),
     if (x$priority != "first") paste(", priority", x$priority))
 }
 

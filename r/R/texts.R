@@ -43,6 +43,22 @@ shortened <- function(text) ifelse(is.na(text) | nchar(text) <= 60, text, paste0
 # Stops with an error that names the argument.
 stop_at <- function(what, ...) stop(what, ": ", ..., call. = FALSE)
 
+# One of the choices of an argument, which is given in full or by its beginning. R hands in all of them if the argument is absent; then
+# it is the first.
+chosen <- function(given, choices, what) {
+  if (identical(given, choices)) return(choices[1])
+  at <- if (is.character(given) && length(given) == 1) pmatch(given, choices) else NA
+  if (is.na(at)) {
+    stop_at(what, "one of ", listed(quoted(choices)), " is needed", if (is.character(given)) c(", and not ", listed(quoted(given), 3L)))
+  }
+  choices[at]
+}
+
+# A number of things, with their word.
+count_of <- function(n, one, many = paste0(one, "s")) paste(whole_text(n), if (n == 1) one else many)
+
+count_of_hypotheses <- function(n) count_of(n, "hypothesis", "hypotheses")
+
 # The whole numbers that an argument has, as integers: numbers without a fraction, or texts of digits.
 whole_numbers <- function(x, what, names = NULL) {
   if (!is.atomic(x) && !is.list(x)) stop_at(what, "a whole number is needed, and not an object of class ", class(x)[1])

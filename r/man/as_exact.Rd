@@ -31,15 +31,16 @@ read as this fraction. If the numbers then do not sum to the total exactly, that
 a row of zeros may stay.
 
 A data frame is read column by column. A text that R writes for a fraction, as \code{"0.3333333"} for 1/3, is read as it is
-written, with a warning of class \code{welungad_written}: texts of 7 digits and denominators up to 1,000, and texts of 15 digits
-and denominators up to 10,000.
+written, with a warning of class \code{welungad_written}. Such texts have 6 digits and denominators up to 100, 7 digits and denominators
+up to 1,000, or 8 to 17 digits and denominators up to 10,000. R drops zeros at the end, so it writes \code{"0.952381"} for 20/21.
 
 \code{NaN} and infinite numbers are refused. A missing number stays missing; what needs it refuses it.
 }
 \value{
 An object of class \code{welungad_exact} with the parts \code{given}, \code{read} (the text that is handed to the program) and
-\code{rule}. It keeps names, and the rows and columns of a matrix. \code{[}, \code{c}, \code{names} and \code{unname} work as for
-other vectors. \code{as.character} and \code{format} give the texts, \code{summary} how many numbers were read by each rule, and
+\code{rule}. It keeps names, and the rows and columns of a matrix. \code{[}, \code{[[}, \code{c}, \code{rep}, \code{names},
+\code{unname} and \code{is.na} work as for other vectors. So do assignments such as \code{x["H1"] <- 1 / 3}, by which the new number is
+read as any other; its number of elements has to be 1, or that of the places. \code{as.character} and \code{format} give the texts, \code{summary} how many numbers were read by each rule, and
 \code{as.data.frame} a table.
 }
 \seealso{
@@ -49,4 +50,7 @@ other vectors. \code{as.character} and \code{format} give the texts, \code{summa
 as_exact(c(1 / 3, 0.025, 0.3333, 0.1 + 0.2))
 as_exact(c("1/3", "1-\\\\epsilon"))
 as_exact(seq(0.1, 0.4, 0.1), total = 1)
+p <- c(H1 = as_exact("1/240"), H2 = 0.02)
+p["H2"] <- 1 / 120
+p
 }

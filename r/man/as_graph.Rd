@@ -9,11 +9,14 @@ the object are read.
 as_graph(x)
 }
 \arguments{
-  \item{x}{an object of class \code{initial_graph} (graphicalMCP), or of class \code{graphMCP} or \code{entangledMCP} (gMCP).}
+  \item{x}{an object of class \code{initial_graph} or \code{updated_graph} (graphicalMCP), or of class \code{graphMCP} or \code{entangledMCP} (gMCP).}
 }
 \details{
 Weights and edges are read as \code{\link{as_exact}} says. Edges of gMCP that are texts with epsilon stay as they are. A graph
 whose weights or rows sum to more than 1, as R's doubles are read, is refused: see \code{total} of \code{\link{as_exact}}.
+
+A graph of gMCP in which a hypothesis is marked as rejected is an error, since here it would be a hypothesis that is not rejected and has
+the weight 0.
 }
 \value{
 A graph of class \code{welungad_graph}.

@@ -23,7 +23,7 @@ Nothing is claimed of when Simes' test is valid under dependence. It rejects at 
 }
 \value{
 An object of class \code{welungad_bounds} with the parts \code{sets} and \code{bound}. A result of \code{graph_simes} also has
-\code{top}, the bounds of the hypotheses with the least p-values, and \code{rejected}. \code{bound_of} gives the bound of one set; \code{x[i]} has some of the sets, and \code{summary} counts sets by size and bound.
+\code{top}, the bounds of the hypotheses with the least p-values, and \code{rejected}. \code{bound_of} gives the bound of one set, which has to be among those of \code{x}; \code{x[i]} has some of the sets, and \code{summary} counts sets by size and bound.
 }
 \references{
 Goeman, J. J. and Solari, A. (2011) Multiple testing for exploratory research. \emph{Statistical Science} \bold{26}, 584--597.

@@ -9,8 +9,8 @@ graph_read(file, form = c("text", "csv", "json"), alpha = NULL)
 }
 \arguments{
   \item{file}{the file of a case.}
-  \item{form}{its form.}
-  \item{alpha}{the level, for a sheet alone.}
+  \item{form}{its form: \code{text}, which has a line for each part of the case; \code{csv}, a sheet with a row for each hypothesis; or \code{json}.}
+  \item{alpha}{the level, for the form \code{csv} alone: the other forms have a level of their own.}
 }
 \value{
 A list with \code{graph}, \code{alpha}, \code{p} (exact texts, or \code{NULL}) and \code{stages} (the lines of the stages).

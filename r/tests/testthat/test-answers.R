@@ -57,10 +57,35 @@ test_that("so it is for each command", {
     expect_null(read(canon[-1]))
     expect_null(read(sub("^weights .*", "weights 1", canon)))
     first <- sub("^evidence 2", "evidence 1", evidence$evidence[!grepl("^(keep|exit)", evidence$evidence)])
-    expect_equal(graph_check(graph, p, evidence = first)$listed, "H1")
+    for (before in list(NULL, "", "# by a reviewer", c(" \t", "  # evidence 2"), "# one line\n", "#\xff")) {
+      expect_equal(graph_check(graph, p, evidence = c(before, first))$listed, "H1")
+      expect_equal(graph_check(graph, p, evidence = c(before, evidence$evidence))$kept, "H2")
+    }
+    expect_equal(graph_check(graph, p, evidence = paste0(first, "\r", collapse = "\n"))$listed, "H1")
     with_program("/bin/true", expect_error(pair(), "gives no whole answer of Welungad to canon"))
     with_program("/bin/true", expect_error(graph_catalogue("holm", 3), "gives no whole answer of Welungad to catalogue"))
   })
+})
+
+test_that("the reply to a study has one to each look", {
+  case <- welungad:::handed("", list(names = c("H1", "H2")), looks = data.frame(name = c("H1", "H2", "H1"), stage = c(1, 1, 2)))
+  lines <- c("alpha 1/40", "records 2", "look H1 1 1/100", "reject H1 stage 1 weight 1/2", "refused 2: known", "look H1 2 1/2",
+    "show looks 4 rejected H1", "end")
+  read <- function(lines, looks = case$looks) {
+    case$looks <- looks
+    welungad:::read_answer("study", 0L, lines, case)
+  }
+  expect_equal(read(lines)[c("records", "taken", "rejected", "arrival")], list(records = 2L, taken = 4L, rejected = c(TRUE, FALSE), arrival = 1L))
+  for (k in setdiff(seq_along(lines), 4)) expect_null(read(lines[-k]), info = lines[k])
+  for (k in c(3, 5, 6)) expect_null(read(lines[c(seq_len(k), k:8)]), info = lines[k])
+  expect_null(read(lines[c(1, 2, 6, 5, 3, 4, 7, 8)]))
+  for (change in list(c("look H1 1", "look H2 1"), c("look H1 2", "look H1 3"), c("refused 2", "refused 3"), c("refused 2", "refused 02"),
+    c("refused 2:", "refused x:"), c("looks 4", "looks 3"), c("looks 4", "looks x"), c("records 2", "records"), c("records 2", "records 2 2"),
+    c("weight 1/2", "weight"), c("reject H1", "reject H3"), c("rejected H1", "rejected H3"))) {
+    expect_null(read(sub(change[1], change[2], lines, fixed = TRUE)), info = change[2])
+  }
+  expect_null(read(lines, case$looks[1:2, ]))
+  expect_null(read(lines, rbind(case$looks, case$looks[1, ])))
 })
 
 test_that("a program that a signal ends is not taken for its status", {
@@ -68,6 +93,18 @@ test_that("a program that a signal ends is not taken for its status", {
     graph <- pair()
     with_program(stand_in("keeper fault", -9), expect_error(graph_test(graph, c(0.1, 0.2)), "was ended by signal 9"))
     with_program(stand_in("", 77), expect_error(graph_test(graph, c(0.1, 0.2)), "can't be run: it ends with 77"))
+    # an interrupt of the program is one of R
+    said <- function(code) tryCatch(code, interrupt = function(i) "interrupted", error = conditionMessage)
+    with_program(stand_in("usage: word 1", -2), expect_equal(said(graph_test(graph, c(0.1, 0.2))), "interrupted"))
+    with_program(stand_in("usage: word 1", -2), expect_equal(said(graph_test_many(graph, matrix(0.1, 3, 2))), "interrupted"))
+    x <- graph_test(graph, c(0.1, 0.2))
+    # one that comes after the program has answered, or while the shell begins
+    lines <- c("#!/bin/sh", "kill -2 $PPID", paste("echo", shQuote(x$report)))
+    program <- stand_in("")
+    writeLines(lines, program)
+    with_program(program, expect_equal(said(graph_test(graph, c(0.1, 0.2))), "interrupted"))
+    writeLines(lines[-2], program)
+    with_program(program, expect_equal(said(graph_test(graph, c(0.1, 0.2)))$report, x$report))
   })
 })
 

@@ -6,6 +6,8 @@ test_that("graphs of graphicalMCP are taken by their fields", {
     theirs <- structure(list(hypotheses = stats::setNames(c(0.5, 0.5, 0, 0), names), transitions = structure(edges, dimnames = list(names, names))),
       class = "initial_graph")
     expect_equal(as_graph(theirs)$components, diabetes()$components)
+    updated <- structure(list(initial_graph = NULL, updated_graph = theirs, deleted = "H5"), class = "updated_graph")
+    expect_equal(as_graph(updated)$components, diabetes()$components)
     expect_error(as_graph(structure(list(hypotheses = 1), class = "initial_graph")), "x: the object has no part \"transitions\"", fixed = TRUE)
   })
 })
@@ -22,6 +24,11 @@ test_that("graphs of gMCP are taken by their slots", {
     expect_equal(as_graph(theirs)$components, diabetes()$components)
     small <- of_slots("graphMCP", m = matrix(c("0", "\\epsilon", "1", "0"), 2), weights = c(1, 0))
     expect_equal(unname(as_graph(small)$components[[1]]$edges[2, 1]), "\\epsilon")
+    marked <- of_slots("graphMCP", m = structure(edges, dimnames = list(names, names)), weights = c(0.5, 0.5, 0, 0),
+      nodeAttr = list(X = 1:4, Y = 1:4, rejected = c(FALSE, TRUE, FALSE, FALSE)))
+    expect_error(as_graph(marked), "x: \"H2\" is marked as rejected: give the graph from before its rejection", fixed = TRUE)
+    attr(marked, "nodeAttr") <- list(rejected = rep(FALSE, 4))
+    expect_equal(as_graph(marked)$components, diabetes()$components)
     half <- function(weights) of_slots("graphMCP", m = matrix(0, 2, 2), weights = weights)
     both <- of_slots("entangledMCP", subgraphs = list(half(c(1, 0)), half(c(0, 1))), weights = c(0.25, 0.75))
     expect_equal(vapply(as_graph(both)$components, `[[`, "", "share"), c("1/4", "3/4"))

@@ -5,7 +5,7 @@ test_that("exact numbers are taken apart and put together", {
   expect_equal(as.character(x[-3]), c(a = "1/3", b = "1/4"))
   expect_error(x["d"], "no number has this name or place")
   expect_error(x[4], "no number has this name or place")
-  expect_equal(as.character(c(x[1:2], d = 0.5, "2/3")), c(a = "1/3", b = "1/4", "1/2", "2/3"))
+  expect_equal(as.character(c(x[1:2], d = 0.5, "2/3")), c(a = "1/3", b = "1/4", d = "1/2", "2/3"))
   expect_null(names(unname(x)))
   expect_equal(unname(x)$read, x$read)
   expect_equal(format(x[1:2]), c(a = "1/3", b = "1/4"))
@@ -19,6 +19,89 @@ test_that("exact numbers are taken apart and put together", {
   expect_equal(dim(m[, 2:1]), c(2, 2))
   expect_output(print(m), "s, t")
   expect_equal(as_exact(data.frame(a = c("1/3", "0"), b = c(0.5, 0)))$read, c("1/3", "0", "1/2", "0"))
+})
+
+test_that("numbers that are put together have the names that R gives", {
+  one <- as_exact(0.9)
+  for (parts in list(list(a = 1, b = 2), list(1, b = 2), list(1, 2), list(a = c(x = 1, y = 2), 3), list(a = 1:2, b = c(z = 3)))) {
+    expect_identical(names(do.call(c, lapply(parts, as_exact))), names(do.call(c, parts)))
+  }
+  expect_identical(names(c(one)), NULL)
+  expect_identical(c(a = one, b = "1/3")$read, c("9/10", "1/3"))
+  each_way(function(way) {
+    expect_equal(graph_test(pair(), c(H2 = as_exact(0.001), H1 = one))$rejected, c(H1 = FALSE, H2 = TRUE))
+    expect_error(graph_test(pair(), c(as_exact(0.001), H1 = 0.9)), "p: the first has no name, and others have one", fixed = TRUE)
+  })
+})
+
+test_that("numbers are changed where they are", {
+  x <- as_exact(c(a = 1 / 3, b = 0.25, c = NA))
+  changed <- function(...) as.character(replace(x, ...))
+  expect_equal(changed("b", 0.5), c(a = "1/3", b = "1/2", c = NA))
+  expect_equal(changed(3, "1/7"), c(a = "1/3", b = "1/4", c = "1/7"))
+  expect_equal(changed(is.na(x), 0.1), c(a = "1/3", b = "1/4", c = "1/10"))
+  expect_equal(changed(2:3, c(b = 0.1 + 0.2, 0)), c(a = "1/3", b = "0.30000000000000004", c = "0"))
+  expect_equal(changed(-1, as_exact("2/3")), c(a = "1/3", b = "2/3", c = "2/3"))
+  expect_equal(changed(integer(), 1), as.character(x))
+  y <- x
+  y[["c"]] <- 1L
+  y[] <- rev(y)
+  expect_identical(unclass(y), unclass(as_exact(c(a = 1, b = 0.25, c = 1 / 3))))
+  expect_equal(y$given, c("1", "0.25", "0.333333333333333"))
+  for (wrong in list("d", 4, c(TRUE, FALSE, FALSE, TRUE))) expect_error(x[wrong] <- 0.5, "no number has this name or place")
+  expect_error(x[1:2] <- c(0.1, 0.2, 0.3), "^value: 3 given for 2 numbers$")
+  expect_error(x[1:3] <- c(0.1, 0.2), "^value: 2 given for 3 numbers$")
+  expect_error(x["a"] <- TRUE, "^value: numbers are doubles")
+  expect_error(x[["d"]] <- 0.5, "no number has this name or place")
+  expect_error(x[[1:2]] <- 0.5, "[[ takes one number, and not 2", fixed = TRUE)
+  expect_error(x$a <- 0.5, "numbers that were read are changed by their names or places")
+  expect_equal(as.character(x), c(a = "1/3", b = "1/4", c = NA))
+  m <- as_exact(matrix(c(0, 0.5, 1 / 3, 0), 2, dimnames = list(c("r", "s"), c("t", "u"))))
+  m["r", "u"] <- "2/3"
+  m[cbind(2, 2)] <- 1
+  expect_equal(m$read, c("0", "1/2", "2/3", "1"))
+  m["s", ] <- 0
+  expect_equal(m$read, c("0", "0", "2/3", "0"))
+  expect_equal(dimnames(m), list(c("r", "s"), c("t", "u")))
+  expect_error(x[1, 2] <- 0, "these numbers have no rows and columns")
+  each_way(function(way) {
+    p <- as_exact(c(H1 = 0.9, H2 = 0.9))
+    p["H1"] <- 0.001
+    expect_equal(graph_test(pair(), p)$rejected, c(H1 = TRUE, H2 = FALSE))
+    expect_equal(graph_test(pair(), replace(p, "H2", 0.001))$rejected, c(H1 = TRUE, H2 = TRUE))
+  })
+})
+
+test_that("single numbers, rows, columns and missing ones are taken as of other vectors", {
+  x <- as_exact(c(a = 1 / 3, b = 0.25, c = NA))
+  expect_identical(unclass(x[["b"]]), unclass(as_exact(0.25)))
+  expect_equal(x[[1]]$read, "1/3")
+  expect_error(x[["d"]], "no number has this name or place")
+  expect_error(x[[1:2]], "[[ takes one number, and not 2", fixed = TRUE)
+  expect_equal(vapply(x, as.character, ""), as.character(x))
+  expect_equal(unlist(Map(function(it, k) it$read, x, 1:3)), as.character(x))
+  expect_output(utils::str(x), "1/3")
+  expect_equal(is.na(x), c(a = FALSE, b = FALSE, c = TRUE))
+  expect_true(anyNA(x))
+  expect_false(anyNA(x[1:2]))
+  expect_equal(as.character(rep(x[1:2], times = c(1, 2))), c(a = "1/3", b = "1/4", b = "1/4"))
+  names(x) <- c("A", "B")
+  expect_equal(names(x), c("A", "B", NA))
+  names(x) <- factor(c("u", "v", "w"), levels = c("w", "v", "u"))
+  expect_identical(names(x), c("u", "v", "w"))
+  expect_error(names(x) <- letters[1:4], "^names: 4 given for 3 numbers$")
+  m <- as_exact(matrix(c(0, 0.5, 1 / 3, 0), 2, dimnames = list(c("r", "s"), c("t", "u"))))
+  expect_equal(m[cbind(c(1, 2), c(2, 1))]$read, c("1/3", "1/2"))
+  expect_equal(m[["s", "t"]]$read, "1/2")
+  expect_equal(dim(m["r", , drop = FALSE]), c(1L, 2L))
+  expect_equal(dimnames(m["r", , drop = FALSE]), list("r", c("t", "u")))
+  expect_equal(is.na(m), is.na(matrix(0, 2, 2, dimnames = list(c("r", "s"), c("t", "u")))))
+  expect_equal(dim(m[]), c(2L, 2L))
+  expect_error(x[1, 2], "these numbers have no rows and columns")
+  each_way(function(way) {
+    P <- as_exact(matrix(c(0.001, 0.9, 0.9, 0.001), 2, dimnames = list(NULL, c("H1", "H2"))))
+    expect_equal(unname(graph_test_many(pair(), P[2, , drop = FALSE])), matrix(c(FALSE, TRUE), 1))
+  })
 })
 
 test_that("whole numbers of 64 bits are read without the package bit64", {

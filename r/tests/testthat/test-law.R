@@ -72,6 +72,17 @@ vector_forms <- list(
   shuffled = function(text, double, labels, order) stats::setNames(double, labels)[order],
   exact = function(text, double, labels, order) as_exact(stats::setNames(double, labels)[order]),
   exact_text = function(text, double, labels, order) as_exact(stats::setNames(text, labels)[order]),
+  joined = function(text, double, labels, order) do.call(c, stats::setNames(lapply(double, as_exact), labels)[order]),
+  assigned = function(text, double, labels, order) {
+    x <- as_exact(stats::setNames(rep(1, length(double)), labels)[order])
+    for (i in seq_along(labels)) x[labels[i]] <- double[i]
+    x
+  },
+  exact_column = function(text, double, labels, order) {
+    frame <- data.frame(hypothesis = labels[order], stringsAsFactors = FALSE)
+    frame$value <- as_exact(double[order])
+    frame[rev(seq_along(labels)), ]
+  },
   fractions = function(text, double, labels, order) exact_fractions(text),
   named_fractions = function(text, double, labels, order) {
     x <- exact_fractions(text[order])

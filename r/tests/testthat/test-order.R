@@ -37,9 +37,8 @@ test_that("p-values with names are put in order, whatever their class", {
       expect_equal(x$rejected, c(H1 = FALSE, H2 = TRUE), info = class(form)[1])
       expect_equal(x$exact$p, c("9/10", "1/1000"))
     }
-    for (graph_call in list(graph_bounds, graph_simes, graph_test_closure, graph_evidence, graph_canon)) {
+    for (graph_call in list(graph_bounds, graph_simes, graph_test_closure, graph_evidence)) {
       expect_match(paste(graph_call(pair(), as_exact(p))$case, collapse = "\n"), "p 9/10 1/1000", fixed = TRUE)
-      break
     }
     expect_equal(graph_canon(pair(), as_exact(p))[3], "p 9/10 1/1000")
     expect_error(graph_test(pair(), c(H1 = 0.1, H1 = 0.2)), "p: the name \"H1\" occurs twice", fixed = TRUE)
@@ -47,6 +46,13 @@ test_that("p-values with names are put in order, whatever their class", {
     expect_error(graph_test(pair(), c(H = 0.1, H2 = 0.2)), "p: no hypothesis has the name \"H\"", fixed = TRUE)
     expect_error(graph_test(pair(), c(H1 = 0.1, 0.2)), "p: the second has no name, and others have one", fixed = TRUE)
     expect_error(graph_test(pair(), c(H1 = 0.1, H2 = 0.2, H3 = 0.3)), "p: no hypothesis has the name \"H3\"", fixed = TRUE)
+    for (own in list("H2", c("H2", NA))) {
+      names(fractions) <- own
+      expect_error(graph_test(pair(), fractions), "p: the second has no name, and others have one", fixed = TRUE)
+    }
+    names(fractions) <- c(NA, "H1")
+    expect_error(graph_test(pair(), fractions), "p: the first has no name, and others have one", fixed = TRUE)
+    expect_equal(graph_test(pair(), rev(gmp::as.bigq(c(1, 9), c(1000, 10))))$exact$p, c("9/10", "1/1000"))
     expect_error(graph_test(pair(), c(H1 = 0.1)), "p: nothing is given for \"H2\"", fixed = TRUE)
     expect_error(graph_test(pair(), matrix(0.1, 2, 2)), "p: a vector is needed, and not a table of 2 by 2")
     expect_error(graph_test(pair(), data.frame(a = 1:2, b = 1:2)), "p: a data frame has one row")
@@ -102,6 +108,12 @@ test_that("names decide the direction of a table of levels", {
     expect_error(graph_stages(diabetes(), list(0.001, 0.002)), "levels: 2 given for 4 hypotheses", fixed = TRUE)
     expect_error(graph_stages(diabetes(), list(0.001)), "levels: 1 given for 4 hypotheses", fixed = TRUE)
     expect_error(graph_stages(diabetes(), rep(list(0.001), 4), at = c(1, 1 / 2)), "at: 2 given for 4 hypotheses", fixed = TRUE)
+    # a level at a weight that no hypothesis has
+    for (at in list(-1, 0, 2, 50, "x", NA)) {
+      fault <- paste0("^at: the weight of H1 is ", at, ", and not above 0 and at most 1$")
+      expect_error(graph_stages(pair(), list(H1 = 0.001, H2 = 0.001), at = at), fault)
+    }
+    expect_error(graph_stages(pair(), list(H1 = -0.001, H2 = -0.001), at = c(1, -1)), "at: the weight of H2 is -1, and not above 0", fixed = TRUE)
   })
 })
 
@@ -159,6 +171,22 @@ test_that("a graph that was changed is decided as it is", {
     graph$components[[1]]$weights[] <- c("1", "0")
     expect_equal(graph_test(graph, c(0.02, 0.9))$exact$weight, c("1", "1"))
     expect_match(graph_canon(graph)[3], "weights 1 0")
+    # weights and edges are taken in their order
+    turned <- graph
+    turned$components[[1]]$weights <- c(H2 = "1", H1 = "0")
+    expect_error(graph_test(turned, c(0.02, 0.9)), "^graph: its weights and edges have the names H2, H1, and its hypotheses H1, H2$")
+    turned <- graph
+    turned$components[[1]]$edges <- turned$components[[1]]$edges[, 2:1]
+    expect_error(graph_canon(turned), "graph: its weights and edges have the names H2, H1", fixed = TRUE)
+    after <- graph_update(diabetes(), "H1")$updated_graph
+    after$components[[1]]$weights <- rev(after$components[[1]]$weights)
+    expect_error(graph_test_many(after, matrix(0.1, 2, 3)), "graph: its weights and edges have the names H4, H3, H2", fixed = TRUE)
+    # a double that is assigned is a text of 15 digits
+    graph$components[[1]]$weights["H1"] <- 1 / 3
+    expect_warning(graph_canon(graph), "graph: \"0.333333333333333\" is what R writes for 1/3", fixed = TRUE, class = "welungad_written")
+    graph$components[[1]]$weights <- unname(graph$components[[1]]$weights)
+    graph$components[[1]]$weights[1] <- "1/3"
+    expect_match(graph_canon(graph)[3], "weights 1/3 0")
   })
 })
 

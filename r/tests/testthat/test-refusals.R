@@ -72,7 +72,8 @@ test_that("other refusals carry status, line and advice", {
     expect_equal(line(graph_create(c(0.5, 0.5), diag(2))), "malformed: case: self edge of H1 component 1")
     expect_equal(line(graph_bounds(holm(17), rep(0.1, 17))), "limit: closure 17")
     expect_equal(line(graph_catalogue("holm", 65)), "limit: size 65")
-    expect_error(graph_catalogue("hochberg", 3), "should be one of")
+    several <- "name: one of \"holm\", \"fixed-sequence\", \"fallback\", \"parallel\", \"improved-parallel\" is needed"
+    expect_error(graph_catalogue("hochberg", 3), paste0(several, ", and not \"hochberg\""), fixed = TRUE)
     wide <- refusal_of(graph_test(graph_create(c(1, 0, 0, 0), rbind(
       c("0", "1/1000000000000000000", "0", "0"), c("0", "0", "1/999999999999999999", "0"), c("0", "0", "0", "1/999999999999999997"), "0"
     )), c(0, 0, 0, 0), 0.05))
@@ -131,5 +132,78 @@ test_that("the proved call answers as the program prints", {
     for (words in list(NA, c("test", NA), NA_character_)) expect_error(welungad_run(words), "words: a word is NA", fixed = TRUE)
     for (wrong in list(NA, c("alpha 1", NA), NULL, list("x"))) expect_error(welungad_run("test", wrong), "case: a raw vector, a text or lines")
     expect_error(welungad_run(c("check", "-"), "x", NA_character_), "proof: a raw vector, a text or lines")
+  })
+})
+
+test_that("what is none of the choices of an argument is an error that names it", {
+  each_way(function(way) {
+    graph <- pair()
+    p <- c(0.01, 0.02)
+    orders <- "^priority: one of \"first\", \"last\", \"ratio\" is needed"
+    for (wrong in list(NULL, character(), NA_character_, "", "lest", c("last", "ratio"), 2, factor("last"), TRUE)) {
+      expect_error(graph_test(graph, p, priority = wrong), orders)
+      expect_error(graph_evidence(graph, p, priority = wrong), orders)
+      expect_error(graph_catalogue(wrong, 3), "^name: one of \"holm\", ")
+      expect_error(graph_read(tempfile(), wrong), "^form: one of \"text\", \"csv\", \"json\" is needed")
+    }
+    expect_error(graph_test(graph, p, priority = "lest"), ", and not \"lest\"$")
+    expect_equal(graph_test(graph, p, priority = "la")$order, graph_test(graph, p, priority = "last")$order)
+    expect_equal(graph_catalogue("par", 2, 2), graph_catalogue("parallel", 2, 2))
+    expect_equal(graph_test(graph, p, priority = c("first", "last", "ratio"))$priority, "first")
+  })
+})
+
+test_that("a level is given for a sheet alone", {
+  file <- tempfile()
+  on.exit(unlink(file))
+  each_way(function(way) {
+    writeLines(graph_canon(pair(), c(0.01, 0.02)), file)
+    expect_error(graph_read(file, alpha = 0.05), "^alpha: a case of the form text has a level of its own$")
+    expect_error(graph_read(file, "json", 0.05), "^alpha: a case of the form json has a level of its own$")
+    expect_error(graph_read(file, "csv"), "^alpha: a case of the form csv has no level of its own, so one is needed$")
+    for (form in c("csv", "json")) {
+      cat(welungad_run(c("canon", "--to", form), graph_canon(pair(), c(0.01, 0.02)))$text, file = file)
+      read <- graph_read(file, form, if (form == "csv") 0.025)
+      expect_equal(read$graph$components, pair()$components)
+      expect_equal(read[c("alpha", "p", "stages")], list(alpha = "1/40", p = c(H1 = "1/100", H2 = "1/50"), stages = character()))
+    }
+  })
+})
+
+test_that("the errors of the package name the argument", {
+  each_way(function(way) {
+    graph <- pair()
+    p <- c(0.01, 0.02)
+    expect_error(graph_create(c(0.5, 0.5), matrix(0, 2, 2), hyp_names = "A"), "^hyp_names: one name is needed for each hypothesis$")
+    expect_error(graph_create(c(0.5, 0.5), matrix(0, 2, 2), labels = "A"), "^labels: one label is needed for each hypothesis$")
+    expect_error(graph_entangle(shares = 1), "^[.]{3}: graphs are needed, as graph_create makes them$")
+    expect_error(graph_entangle(graph, 1, shares = c(0.5, 0.5)), "^[.]{3}: graphs are needed")
+    expect_error(graph_entangle(entangled(), shares = 1), "^[.]{3}: a graph that is entangled already can't be entangled again$")
+    expect_error(graph_update(graph, list("H1")), "^delete: hypotheses are given by their names, labels or positions$")
+    expect_error(graph_update(graph, 0.5), "^delete: hypotheses are given by their names, labels or positions$")
+    expect_error(graph_steps(1), "^x: a result of graph_test is needed$")
+    expect_error(graph_rejections(1), "^x: a result of graph_test is needed$")
+    bounds <- graph_bounds(graph, p)
+    expect_error(bound_of(1, "H1"), "^x: a result of graph_bounds or graph_simes is needed$")
+    expect_error(bound_of(bounds[1:2], "H1"), "^hypotheses: this set is not among the 2 sets of x$")
+    for (wrong in list(1, NA_character_, character(), c("evidence 2", NA))) {
+      expect_error(graph_check(graph, p, evidence = wrong), "^evidence: a result of graph_evidence or the lines of a document are needed$")
+    }
+    expect_error(graph_stages(graph, 0.01), "^levels: a list is needed with a vector or a matrix for each hypothesis, or a matrix")
+    expect_error(graph_stages(graph, list(0.01, NA)), "^levels: \"H2\": a number is needed for each stage$")
+    expect_error(graph_stages(graph, list(numeric(), numeric())), "^levels: \"H1\": a number is needed for each stage$")
+    expect_error(graph_stages(graph, list(0.01, matrix(0.01))), "^levels: \"H2\": a matrix of levels has row names: the weights")
+    expect_error(graph_stages(graph, list(0.01, rbind(x = 0.01))), "^levels: \"H2\": the row name \"x\" is not a weight$")
+    levels <- list(0.01, 0.01)
+    expect_error(graph_stages(graph, levels, data.frame(hypothesis = "H1", p = 0.1)), "^looks: a data frame with the columns hypothesis, stage and p")
+    expect_error(graph_stages(graph, levels, data.frame(hypothesis = "H1", stage = 1, p = NA)), "^looks: the p-value of row 1 is missing$")
+    for (level in list(0, -0.5, "x", 2)) {
+      expect_equal(refusal_of(graph_stages(graph, levels, alpha = level))$line, refusal_of(graph_test(graph, p, level))$line)
+    }
+    expect_error(as_exact(c("1-\\epsilon", "1"), total = 1), "^x: a sum needs numbers without epsilon, and none missing$")
+    frame <- data.frame(A = 1:2)
+    frame$B <- matrix(0, 2, 2)
+    expect_error(as_exact(frame), "^x: column \"B\" is a table of its own$")
+    with_options(list(welungad.way = "both"), expect_error(graph_canon(graph), "^the option welungad.way: \"library\" or \"program\" is needed$"))
   })
 })

@@ -296,7 +296,7 @@ test_that("parts of results are taken, and summaries are made", {
     expect_output(print(closed, most = 2), "and 13 more intersections")
     bounds <- graph_bounds(diabetes(), p)
     expect_equal(sum(summary(bounds)), 15)
-    expect_output(print(bounds[1:3], most = 2), "and 1 more sets")
+    expect_output(print(bounds[1:3], most = 2), "and 1 more set, which as.data.frame has")
     expect_equal(summary(diabetes())$edges_from, c(2, 2, 1, 1))
     expect_equal(format(entangled()), "Graph of 4 hypotheses with 2 components")
     n <- share_of(way, 16, 8)

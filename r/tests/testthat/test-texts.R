@@ -15,11 +15,37 @@ test_that("texts that R made of fractions are named", {
   expect_warning(as_exact(m), "\"0.333333333333333\" is what R writes for 1/3", fixed = TRUE)
   expect_warning(as_exact(paste(0.05 / 7)), "\"0.00714285714285714\" is what R writes for 1/140", fixed = TRUE)
   expect_warning(as_exact(as.character(9973 / 9999)), "9973/9999", fixed = TRUE)
+  # R drops zeros at the end
+  expect_warning(as_exact(format(20 / 21)), "\"0.952381\" is what R writes for 20/21", fixed = TRUE)
+  expect_warning(as_exact(as.character(1 / 31)), "\"0.032258064516129\" is what R writes for 1/31", fixed = TRUE)
+  # texts from which the double is read
+  for (text in c("0.3333333333333333", "0.33333333333333331")) expect_warning(as_exact(text), "is what R writes for 1/3", fixed = TRUE)
+  expect_no_warning(as_exact(c("0.3333333333333334", "0.333333333333333333333333333333", "0.123456", "0.12345", "0.000", "0.10000000000000000")))
   expect_no_warning(as_exact(c("0.3333", "0.1234567", "0.5000000", "0.123456789012345", "1/3", "0.025", "1e-300", "1-\\epsilon", NA)))
   each_way(function(way) {
     expect_warning(graph_test(pair(), c("0.3333333", "0.5")), "^p: ")
     expect_warning(graph_create(c("0.3333333", "0.5"), matrix(0, 2, 2)), "^hypotheses: ")
   })
+})
+
+test_that("each fraction that R writes as another number is named", {
+  set.seed(31)
+  d <- sample(10000, 4000, TRUE)
+  n <- ceiling(runif(4000) * d)
+  for (digits in c(15, 16, 17)) {
+    texts <- vapply(n / d, format, "", digits = digits)
+    meant <- as.character(gmp::as.bigq(n, d))
+    is_it <- as.logical(welungad:::fraction(texts) == gmp::as.bigq(n, d))
+    # one of 16 digits can be another double
+    same <- if (digits == 16) as.numeric(texts) == n / d else TRUE
+    found <- welungad:::written_fractions(texts)
+    expect_identical(found[same], ifelse(is_it, NA, meant)[same], info = digits)
+  }
+  texts <- vapply(n / d, format, "")
+  is_it <- as.logical(welungad:::fraction(texts) == gmp::as.bigq(n, d))
+  short <- d <= 1000 & nchar(sub("^0[.]0*", "", texts)) == 7
+  expect_gt(sum(short), 200)
+  expect_identical(is.na(welungad:::written_fractions(texts))[short], is_it[short])
 })
 
 test_that("each element is one numeral", {
