@@ -1,7 +1,10 @@
 """Tests of studies: the file of looks, the case beside it, and what passes for the program."""
+import contextlib
 import enum
 import errno
 import os
+import shutil
+import sqlite3
 import stat
 import tempfile
 import unittest
@@ -77,6 +80,12 @@ class Studies(Rooms):
         study = welungad.Study(CASE, self.store)
         self.assertEqual(study.look("H2", 2, 2), welungad.RefusedLook("H2", 2, "range"))
         self.assertEqual(study.show(), welungad.Shown(0, ()))
+
+    def test_the_file_alone_holds_the_looks_of_a_run_that_ended(self):
+        welungad.Study(CASE, self.store).look("H1", 1, "0.02")
+        alone = shutil.copyfile(self.store, os.path.join(self.room, "alone.db"))
+        with contextlib.closing(sqlite3.connect(alone)) as file:
+            self.assertEqual(file.execute("select hypothesis, stage, p from looks").fetchall(), [(0, 1, "1/50")])
 
     def test_the_case_is_beside_the_file(self):
         welungad.Study(CASE, self.store).show()

@@ -9,7 +9,10 @@ graph_evidence <- function(graph, p, alpha = 0.025, priority = c("first", "last"
 
 graph_check <- function(graph, p, alpha = 0.025, evidence) {
   case <- case_of(graph, p, alpha)
-  if (inherits(evidence, "welungad_evidence")) evidence <- evidence$evidence
+  if (inherits(evidence, "welungad_evidence")) {
+    check_labels(evidence, graph)
+    evidence <- evidence$evidence
+  }
   if (!is.character(evidence) || anyNA(evidence) || length(evidence) == 0) {
     stop_at("evidence", "a result of graph_evidence or the lines of a document are needed")
   }
@@ -22,6 +25,14 @@ graph_check <- function(graph, p, alpha = 0.025, evidence) {
     reason = found$reason,
     report = found$lines
   ), class = "welungad_check")
+}
+
+# Stops if the document of evidence names a hypothesis of the graph otherwise than the program does: it is about other labels.
+check_labels <- function(evidence, graph) {
+  own <- evidence$graph
+  if (!identical(own$names[match(graph$labels, own$labels)], graph$names)) {
+    stop_at("evidence", "it is about other hypotheses: ", listed(quoted(own$labels)))
+  }
 }
 
 # Whether a document is of version 1, by its first line that is neither blank nor a comment.

@@ -62,10 +62,13 @@ levels_by_hypothesis <- function(levels, graph) {
   stats::setNames(parts, read$dimnames[[side]])
 }
 
-# Stops if the names of stages have falling numbers: levels are taken in the order in which they are given.
+# Stops if the names of stages have falling numbers, or one such as "stage 3" is not at that place: levels are taken in the order in
+# which they are given.
 check_stages <- function(names, what) {
   numbers <- sub("^[^0-9]*([0-9]{1,9})[^0-9]*\\z", "\\1", names, perl = TRUE)
-  if (length(numbers) && all(grepl("^[0-9]+\\z", numbers, perl = TRUE)) && is.unsorted(as.numeric(numbers))) {
+  is_falling <- length(numbers) && all(grepl("^[0-9]+\\z", numbers, perl = TRUE)) && is.unsorted(as.numeric(numbers))
+  counted <- grep("^[Ss]tage ?[0-9]{1,9}\\z", names, perl = TRUE)
+  if (is_falling || any(as.numeric(numbers[counted]) != counted)) {
     stop_at(what, "the stages are ", listed(quoted(names)), ", and levels are given from the first stage to the last")
   }
 }

@@ -159,6 +159,8 @@ test_that("results have the labels of the user", {
     expect_equal(names(graph_simes(graph, c(0.001, 0.9))$rejected), labels)
     check <- graph_check(graph, c(0.001, 0.9), evidence = graph_evidence(graph, c(0.001, 0.9)))
     expect_equal(c(check$listed, check$kept), labels)
+    other <- graph_create(stats::setNames(c(1/2, 1/2), rev(labels)), matrix(0, 2, 2))
+    expect_error(graph_check(other, c(0.001, 0.9), evidence = graph_evidence(graph, c(0.001, 0.9))), "^evidence: it is about other hypotheses: ")
     staged <- graph_stages(graph, stats::setNames(list(0.01, 0.01), labels), data.frame(hypothesis = labels[1], stage = 1, p = 0.001))
     expect_equal(names(staged$rejected), labels)
     expect_equal(staged$rejections$hypothesis, labels[1])

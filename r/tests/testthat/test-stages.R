@@ -48,7 +48,7 @@ test_that("levels are given in the order of the stages", {
   each_way(function(way) {
     graph <- pair()
     plain <- graph_stages(graph, list(H1 = c(0.005, 0.02), H2 = c(0.005, 0.02)))$case
-    for (names in list(1:2, c("stage 1", "stage 2"), c("interim", "final"), c("week 12", "week 104"))) {
+    for (names in list(1:2, c("stage 1", "stage 2"), c("interim", "Stage2"), c("interim", "final"), c("week 12", "week 104"))) {
       own <- stats::setNames(c(0.005, 0.02), names)
       expect_equal(graph_stages(graph, list(H1 = own, H2 = own))$case, plain)
       expect_equal(graph_stages(graph, rbind(H1 = own, H2 = own))$case, plain)
@@ -60,6 +60,10 @@ test_that("levels are given in the order of the stages", {
       expect_error(graph_stages(graph, rbind(H1 = own, H2 = own)), paste0("levels: ", fault))
       expect_error(graph_stages(graph, cbind(H1 = own, H2 = own)), paste0("levels: ", fault))
       expect_error(graph_stages(graph, list(H1 = own, H2 = rbind("1" = own))), fault)
+    }
+    for (names in list(c("stage 1", "stage 3"), c("Stage2", "final"))) {
+      own <- stats::setNames(c(0.005, 0.02), names)
+      expect_error(graph_stages(graph, rbind(H1 = own, H2 = own)), "^levels: the stages are .*, and levels are given from the first stage")
     }
   })
 })
