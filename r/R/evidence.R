@@ -10,7 +10,7 @@ graph_evidence <- function(graph, p, alpha = 0.025, priority = c("first", "last"
 graph_check <- function(graph, p, alpha = 0.025, evidence) {
   case <- case_of(graph, p, alpha)
   if (inherits(evidence, "welungad_evidence")) {
-    check_labels(evidence, graph)
+    check_own_labels(evidence, graph)
     evidence <- evidence$evidence
   }
   if (!is.character(evidence) || anyNA(evidence) || length(evidence) == 0) {
@@ -28,7 +28,7 @@ graph_check <- function(graph, p, alpha = 0.025, evidence) {
 }
 
 # Stops if the document of evidence names a hypothesis of the graph otherwise than the program does: it is about other labels.
-check_labels <- function(evidence, graph) {
+check_own_labels <- function(evidence, graph) {
   own <- evidence$graph
   if (!identical(own$names[match(graph$labels, own$labels)], graph$names)) {
     stop_at("evidence", "it is about other hypotheses: ", listed(quoted(own$labels)))

@@ -159,11 +159,20 @@ test_that("results have the labels of the user", {
     expect_equal(names(graph_simes(graph, c(0.001, 0.9))$rejected), labels)
     check <- graph_check(graph, c(0.001, 0.9), evidence = graph_evidence(graph, c(0.001, 0.9)))
     expect_equal(c(check$listed, check$kept), labels)
-    other <- graph_create(stats::setNames(c(1/2, 1/2), rev(labels)), matrix(0, 2, 2))
-    expect_error(graph_check(other, c(0.001, 0.9), evidence = graph_evidence(graph, c(0.001, 0.9))), "^evidence: it is about other hypotheses: ")
     staged <- graph_stages(graph, stats::setNames(list(0.01, 0.01), labels), data.frame(hypothesis = labels[1], stage = 1, p = 0.001))
     expect_equal(names(staged$rejected), labels)
     expect_equal(staged$rejections$hypothesis, labels[1])
+  })
+})
+
+test_that("evidence in which the program's names stand for other labels is an error", {
+  each_way(function(way) {
+    of <- function(labels) graph_create(stats::setNames(c(1 / 2, 1 / 2), labels), matrix(0, 2, 2))
+    one <- of(c("\u03b1", "\u03b2"))
+    other <- of(c("\u03b2", "\u03b1"))
+    evidence <- graph_evidence(one, c(0.001, 0.9))
+    expect_equal(graph_check(one, c(0.001, 0.9), evidence = evidence)$listed, "\u03b1")
+    expect_error(graph_check(other, c(0.001, 0.9), evidence = evidence), "^evidence: it is about other hypotheses: ")
   })
 })
 
