@@ -10,7 +10,8 @@ welungad_way <- function() {
   if (!is.character(wish) || length(wish) != 1 || !wish %in% c("library", "program")) {
     stop_at("the option welungad.way", "\"library\" or \"program\" is needed")
   }
-  if (wish %in% welungad_ways()) wish else ""
+  is_found <- if (wish == "library") has_library() else nzchar(program_path())
+  if (is_found) wish else ""
 }
 
 # Whether there is a way to the proved call.
