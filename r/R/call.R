@@ -99,7 +99,7 @@ run_words <- function(words, stdin = "/dev/null", stdout = "/dev/null", stderr =
   command <- paste(c(shQuote(words), "<", shQuote(stdin), ">", shQuote(stdout), "2>", shQuote(stderr)), collapse = " ")
   interrupted <- 128L + tools::SIGINT
   note <- paste0("interrupted=; trap 'interrupted=", interrupted, "' INT; ")
-  status <- suppressWarnings(system(paste0(note, command, "; status=$?; exit $((${interrupted:-$status} + 100))")))
+  status <- suppressWarnings(system(paste0(note, command, "; ended=$?; exit $((${interrupted:-$ended} + 100))")))
   if (status %in% c(tools::SIGINT, interrupted + 100L)) interrupt(words[1])
   # 127 is of a shell that cannot be started
   if (status == 127L) status else (status - 100L) %% 256L
