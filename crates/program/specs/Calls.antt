@@ -26,8 +26,7 @@ LacksMemoryForFile Does words old new = (path : List ℕ) × NamesPath words pat
 abbrev pub LacksMemoryForStore : {O : Type 0} → (O → Request → O → Type 0) → List (List ℕ) → O → O → Type 0
 LacksMemoryForStore Does words old new = (path : List ℕ) × study.NamesStore words path × Does old (open_store path without_memory) new
 
--- There was no memory to open a file or store that the words name: the status is 8, `same` states what is as it was, and `lacking` for what there was
--- no memory.
+-- There was no memory to open a file or store that the words name, as `lacking` states. The status is 8, and `same` states what is as it was.
 pub record IsStopped (status : ℕ) (same lacking : Type 0) : Type 0 where
   pub status_is : status ≡ 8
   pub same_is : same
