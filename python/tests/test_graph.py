@@ -1,4 +1,5 @@
 """Tests of graphs: what they take, what they return with the user's labels, and how they refuse. Values by hand."""
+import collections
 import functools
 import math
 import os
@@ -51,6 +52,15 @@ class Given(unittest.TestCase):
                 (component,) = welungad.Graph(weights, edges).components
                 self.assertEqual((component.edges, component.share), (wanted, 1))
                 self.assertEqual(component.weights, {"A": HALF, "B": HALF})
+
+    def test_named_tuples(self):
+        graph, row = pair(), collections.namedtuple("Row", "B A")
+        self.assertEqual(welungad.Graph(row(1, 0), {}).components[0].weights, {"B": 1, "A": 0})
+        self.assertEqual(graph.test(row(B=0.9, A=0.001)).rejected, ("A",))
+        self.assertEqual(graph.test_many([row(0.9, 0.001), row(0.001, 0.9)]).rejected, ((True, False), (False, True)))
+        self.assertEqual(graph.stages(row([0.01], [0.02]), alpha=0.05).case, graph.stages({"A": [0.02], "B": [0.01]}, alpha=0.05).case)
+        (component,) = welungad.Graph([0.5, 0.5], [row(1, 0), row(0, 0.5)], ["A", "B"]).components
+        self.assertEqual(component.edges, {("A", "B"): Fraction(1), ("B", "A"): HALF})
 
     def test_no_edges(self):
         for edges in [{}, [[0, 0], [0, 0]]]:
@@ -151,6 +161,7 @@ class Given(unittest.TestCase):
         self.assertEqual(welungad.Graph([1, 0], {}, names=pandas.Series(["A", "B"])).names, ("A", "B"))
         with self.assertRaisesRegex(TypeError, "^names is a list of labels in the order of the hypotheses, and has no labels itself$"):
             welungad.Graph([1, 0], {}, names=pandas.Series({"H2": "A", "H1": "B"}))
+        self.assertEqual(graph.test_many(list(rows.itertuples(index=False))).rejected, ((False, False), (False, True)))
         with self.assertRaisesRegex(ValueError, "^rows: its rows have the labels of hypotheses"):
             graph.test_many(pandas.DataFrame([[0.9, 0.001], [0.001, 0.9]], index=["A", "B"]))
         for given, message in [(pandas.DataFrame({"A": [0, 1], "B": [1, 0]}), "the columns have labels, and the others have none"),

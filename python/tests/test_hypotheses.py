@@ -1,7 +1,9 @@
 """Tests of hypotheses: labels, the names that are made for them, and the one function that puts values in order."""
 import array
 import collections
+import contextlib
 import enum
+import sqlite3
 import unittest
 from fractions import Fraction
 
@@ -29,6 +31,13 @@ class Shown(str):
 
     def __str__(self):
         return "x"
+
+
+def row_of(select):
+    """Returns a row of a database, which has names for its values."""
+    with contextlib.closing(sqlite3.connect(":memory:")) as database:
+        database.row_factory = sqlite3.Row
+        return database.execute(select).fetchone()
 
 
 class Names(unittest.TestCase):
@@ -73,6 +82,18 @@ class Order(unittest.TestCase):
         for given in [[1, 2], (1, 2), dictionary, collections.OrderedDict(dictionary), range(1, 3)]:
             with self.subTest(given):
                 self.assertEqual(_hypotheses.in_order(given, AB, "p"), [1, 2])
+
+    def test_sequences_with_names_of_their_own(self):
+        """Whether the values of a named tuple and of a row of a database are matched by their names."""
+        for given in [collections.namedtuple("P", "B A")(2, 1), row_of("select 2 as B, 1 as A"), row_of("select 1 as A, 2 as B")]:
+            with self.subTest(given):
+                self.assertEqual(_hypotheses.in_order(given, AB, "p"), [1, 2])
+        for given, message in [(collections.namedtuple("P", "C A")(2, 1), "^p: 'C' is not the name"), (row_of("select 1 as A, 2 as A"), "^p: the label 'A' occurs 2"),
+                               (collections.namedtuple("P", "A")(1), "^p: the hypothesis 'B' is missing$")]:
+            with self.subTest(given), self.assertRaisesRegex(ValueError, message):
+                _hypotheses.in_order(given, AB, "p")
+        with self.assertRaisesRegex(TypeError, "^edges is a list of rows, and not of type E$"):
+            _hypotheses.rows_of(collections.namedtuple("E", "B A")([0, 1], [1, 0]), "edges")
 
     def test_one_label_begins_another(self):
         for labels in [("A", "AB", "ABC"), ("H1", "H10", "H1 "), ("", " ", "  ")]:

@@ -63,7 +63,7 @@ def as_exact(given: Any, total: Optional[Given] = None) -> Union[Fraction, List[
 
     A number is a Fraction, a Decimal, an int, a text such as "0.025" or "1/40", or a double from 0 to 1. A double is read as the
     fraction with the least denominator up to 10,000 that rounds to it, else as the shortest decimal that does. A list, a tuple or
-    an array gives a list; a dict or a series gives a dict.
+    an array gives a list; a dict, a series or a named tuple gives a dict.
 
     >>> as_exact(1 / 3), as_exact(0.025), as_exact("2.5e-2")
     (Fraction(1, 3), Fraction(1, 40), Fraction(1, 40))

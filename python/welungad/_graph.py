@@ -162,9 +162,9 @@ class Graph:
     `names` are the labels of the hypotheses: any texts, all different. If they are left out, they are the keys of `weights`, or the
     labels of the rows of `edges`, or else H1, H2 and so on. At most 64 hypotheses.
 
-    What is by hypothesis (weights, p-values, levels) is a list, a tuple or an array in the order of the hypotheses, or a dict or
-    a series of pandas with their labels in any order. A number is a Fraction, a Decimal, an int, a text such as "0.025" or "1/40",
-    or a double from 0 to 1, which is read as `as_exact` says.
+    What is by hypothesis (weights, p-values, levels) is a list, a tuple or an array in the order of the hypotheses, or a dict,
+    a series of pandas or a named tuple with their labels in any order. A number is a Fraction, a Decimal, an int, a text such as
+    "0.025" or "1/40", or a double from 0 to 1, which is read as `as_exact` says.
 
     No method decides anything itself: each hands the graph to proved calls, and returns exact numbers with the user's labels.
 

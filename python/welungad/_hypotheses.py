@@ -85,13 +85,19 @@ def is_frame(given: Any) -> bool:
     return hasattr(given, "columns") and hasattr(given, "index") and callable(getattr(given, "items", None))
 
 
+def _own_names(given: Any) -> Optional[List[Any]]:
+    """Returns the names that a sequence has for its values, as a named tuple and a row of a database have; nothing for any other."""
+    keys = getattr(given, "keys", None)
+    return list(keys()) if callable(keys) else list(given._fields) if hasattr(given, "_fields") else None
+
+
 def _is_numbered(labels: List[Any]) -> bool:
     """Whether labels are the row numbers that pandas gives to what has no labels."""
     return all(isinstance(it, int) and not isinstance(it, bool) and it == i for i, it in enumerate(labels))
 
 
 def values_of(given: Any, argument: str) -> Values:
-    """Returns values with their labels, of a sequence, a dict, a series of pandas or an array.
+    """Returns values with their labels, of a sequence, a dict, a series of pandas or an array. A named tuple has labels too.
 
     `TypeError`: it is none of these. A set has no order, and an iterator may have lost some values.
     """
@@ -110,7 +116,7 @@ def values_of(given: Any, argument: str) -> Values:
             raise TypeError(f"{argument} is one value for each hypothesis, and not an array of {getattr(given, 'ndim', 0)} dimensions")
         return Values(None, found)
     if is_sequence(given):
-        return Values(None, list(given))
+        return Values(_own_names(given), list(given))
     raise TypeError(f"{argument} is a list with a value for each hypothesis, or a dict by their names, and not of type {kind_of(given)}")
 
 
@@ -163,6 +169,6 @@ def rows_of(given: Any, argument: str) -> List[Any]:
         if not isinstance(found, list) or not all(isinstance(it, list) for it in found):
             raise TypeError(f"{argument} is a matrix, and not an array of {getattr(given, 'ndim', 0)} dimensions")
         return found
-    if is_sequence(given):
+    if is_sequence(given) and _own_names(given) is None:
         return list(given)
     raise TypeError(f"{argument} is a list of rows, and not of type {kind_of(given)}")
