@@ -1,6 +1,7 @@
 """Tests of hypotheses: labels, the names that are made for them, and the one function that puts values in order."""
 import array
 import collections
+import collections.abc
 import contextlib
 import enum
 import sqlite3
@@ -31,6 +32,23 @@ class Shown(str):
 
     def __str__(self):
         return "x"
+
+
+class Turning(collections.abc.Mapping):
+    """A mapping that is read forwards and backwards in turn, as a cache may be that moves what was read to its end."""
+
+    def __init__(self, own):
+        self.own, self.turn = own, -1
+
+    def __len__(self):
+        return len(self.own)
+
+    def __getitem__(self, label):
+        return self.own[label]
+
+    def __iter__(self):
+        self.turn = -self.turn
+        return iter(list(self.own)[:: self.turn])
 
 
 def row_of(select):
@@ -79,7 +97,7 @@ class Order(unittest.TestCase):
 
     def test_in_order(self):
         dictionary = {"B": 2, "A": 1}
-        for given in [[1, 2], (1, 2), dictionary, collections.OrderedDict(dictionary), range(1, 3)]:
+        for given in [[1, 2], (1, 2), dictionary, collections.OrderedDict(dictionary), range(1, 3), Turning(dictionary), Turning({"A": 1, "B": 2})]:
             with self.subTest(given):
                 self.assertEqual(_hypotheses.in_order(given, AB, "p"), [1, 2])
 

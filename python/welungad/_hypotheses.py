@@ -102,7 +102,8 @@ def values_of(given: Any, argument: str) -> Values:
     `TypeError`: it is none of these. A set has no order, and an iterator may have lost some values.
     """
     if isinstance(given, Mapping):
-        return Values(list(given.keys()), list(given.values()))
+        pairs = list(given.items())
+        return Values([label for label, _ in pairs], [value for _, value in pairs])
     if is_frame(given):
         raise TypeError(f"{argument} is one value for each hypothesis, and not a frame")
     if hasattr(given, "index") and callable(getattr(given, "items", None)):
