@@ -103,6 +103,10 @@ class Stages(unittest.TestCase):
     def test_numpy(self):
         levels = numpy.array([[0.02, 0.03], [0.01, 0.04]])
         self.assertEqual(trial().stages(levels, LOOKS, alpha=0.05).case, trial().stages(LEVELS, LOOKS, alpha=0.05).case)
+        for kind in ["f4", "f8"]:
+            records = numpy.array([(0.03, 0.02), (0.04, 0.01)], dtype=[("final", kind), ("interim", kind)])
+            with self.subTest(kind), self.assertRaisesRegex(TypeError, "^levels is of type .*, whose fields have names: give a frame"):
+                trial().stages(records, LOOKS, alpha=0.05)
 
     @unittest.skipUnless(pandas, "pandas is missing")
     def test_frames(self):

@@ -198,12 +198,14 @@ def plain(value: Any, place: str) -> Any:
     """Returns what an array, or a scalar of numpy, holds, as lists and numbers of Python.
 
     `TypeError`: its numbers have other digits than a double, or may have, so that they are not the doubles that they look like; they
-    are times; or numpy has turned doubles into texts, since there was a text among them.
+    are times; they are in fields with names; or numpy has turned doubles into texts, since there was a text among them.
     """
     dtype = _type_of_numbers(value)
     kind = getattr(dtype, "kind", "")
     if _is_of_times(value):
         raise TypeError(f"{place} is of type {dtype}, and times are no numbers")
+    if kind == "V":
+        raise TypeError(f"{place} is of type {dtype}, whose fields have names: give a frame, a dict or a list")
     found = value.tolist()
     size = getattr(dtype, "itemsize", getattr(value, "itemsize", None))
     if size != 8 and kind != "O" and (kind == "f" or _has_doubles(found)):
