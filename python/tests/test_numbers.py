@@ -3,6 +3,7 @@ import array
 import os
 import random
 import struct
+import types
 import unittest
 import warnings
 from decimal import Decimal
@@ -227,6 +228,23 @@ class Kinds(unittest.TestCase):
         self.assertEqual(welungad.as_exact(Column([0, "1/3"])), [0, Fraction(1, 3)])
         with self.assertRaisesRegex(TypeError, "^numbers is of type Column, whose numbers may not be doubles: give doubles"):
             welungad.as_exact(Column([0.10000000149011612]))
+
+    def test_a_dictionary_of_pyarrow(self):
+        class Dictionary:
+            """As a column of pandas over a dictionary of pyarrow: its type has objects, which may be made of short floats."""
+
+            ndim = 1
+            dtype = types.SimpleNamespace(kind="O", itemsize=8, pyarrow_dtype="dictionary")
+
+            def __init__(self, values):
+                self.values = values
+
+            def tolist(self):
+                return self.values
+
+        self.assertEqual(welungad.as_exact(Dictionary([0, "1/3"])), [0, Fraction(1, 3)])
+        with self.assertRaisesRegex(TypeError, "^numbers is of type .*, whose numbers may not be doubles: give doubles"):
+            welungad.as_exact(Dictionary([0.10000000149011612]))
 
     @unittest.skipUnless(pandas, "pandas is missing")
     def test_short_floats_in_pandas(self):

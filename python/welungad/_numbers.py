@@ -207,8 +207,10 @@ def plain(value: Any, place: str) -> Any:
     if kind == "V":
         raise TypeError(f"{place} is of type {dtype}, whose fields have names: give a frame, a dict or a list")
     found = value.tolist()
-    size = getattr(dtype, "itemsize", getattr(value, "itemsize", None))
-    if size != 8 and kind != "O" and (kind == "f" or _has_doubles(found)):
+    # of a dictionary of pyarrow pandas says that it has objects, and these are made of short floats too
+    is_unknown = kind == "O" and hasattr(dtype, "pyarrow_dtype")
+    size = None if is_unknown else getattr(dtype, "itemsize", getattr(value, "itemsize", None))
+    if size != 8 and (kind != "O" or is_unknown) and (kind == "f" or _has_doubles(found)):
         of, are = kind_of(value) if dtype is None else dtype, "may not be" if size is None else "are not"
         raise TypeError(f"{place} is of type {of}, whose numbers {are} doubles: give doubles, fractions or texts")
     if type(found) is type(value):
