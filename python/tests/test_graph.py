@@ -408,6 +408,7 @@ class Refusals(unittest.TestCase):
         one = functools.partial(welungad.Graph, names=["a b", "B"])
         for call, where, line in [
             (lambda: one([0.1 + 0.2, 0.7], {}), "weights, which sum to 1.00000000000000004 (3/10 + 7/10 by as_exact with a total of 1)", "malformed: case: weight sum component 1"),
+            (lambda: one(["0.30000000000000004", 0.7], {}), "weights, which sum to 1.00000000000000004", "malformed: case: weight sum component 1"),
             (lambda: one([-1, 1], {}), "the weight of 'a b'", "malformed: case: weight of a_b component 1"),
             (lambda: one([1, 0], [[1, 0], [0, 0]]), "the edge from 'a b' to 'a b'", "malformed: case: self edge of a_b component 1"),
             (lambda: one([1, 0], [[0, 2], [0, 0]]), "the edge from 'a b' to 'B'", "malformed: case: edge a_b B component 1"),

@@ -184,6 +184,11 @@ class BesideFractions(unittest.TestCase):
             welungad.as_exact([0.1 + 0.2, 0.6], total=1)
         with self.assertRaisesRegex(ValueError, ", and not 1$"):
             welungad.as_exact([0.5, "0.4999999999999999999"], total=1)
+        exact = Fraction("0.30000000000000004")
+        for given in [["0.30000000000000004", 0.7], [Decimal("0.30000000000000004"), 0.7], {"A": exact, "B": 0.7}]:
+            with self.subTest(given), self.assertRaisesRegex(ValueError, "^the row reads as .*, which is .*, and not 1$"):
+                welungad.as_exact(given, total=1)
+        self.assertEqual(welungad.as_exact([exact, 0.1 + 0.2], total=exact + Fraction(3, 10)), [exact, Fraction(3, 10)])
         for given, total in [(0.5, 1), ([0.5, True], None), ([0.5, 0.5], True), ([[0.5], [0.5]], None)]:
             with self.subTest(given), self.assertRaises(TypeError):
                 welungad.as_exact(given, total=total)

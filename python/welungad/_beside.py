@@ -84,16 +84,16 @@ def as_exact(given: Any, total: Optional[Given] = None) -> Union[Fraction, List[
     found = values_of(given, "numbers")
     values = [exact_value(value, f"number {at}") for at, value in enumerate(found.values, 1)]
     if total is not None:
-        values = _with_total(values, exact_value(total, "total"))
+        values = _with_total(found.values, values, exact_value(total, "total"))
     if found.labels is None:
         return values
     hold_distinct(found.labels, "numbers")
     return dict(zip(found.labels, values))
 
 
-def _with_total(values: Sequence[Fraction], total: Fraction) -> List[Fraction]:
-    """Returns a row as the fractions beside its numbers, which sum to the total."""
-    found = [meant(value) for value in values]
+def _with_total(given: Sequence[Any], values: Sequence[Fraction], total: Fraction) -> List[Fraction]:
+    """Returns a row as the fractions beside its doubles, which sum to the total with its other numbers."""
+    found = [meant(value) if isinstance(it, float) else value for it, value in zip(given, values)]
     if sum(found) != total:
         raise ValueError(f"the row reads as {' + '.join(map(str, found))}, which is {sum(found)}, and not {total}")
     return found

@@ -69,7 +69,8 @@ def sum_text(texts: Sequence[str]) -> str:
     known = [value for value in values if value is not None]
     if len(known) < len(values):
         return ""
-    near = [meant(value) for value in known]
+    # a double is written as a fraction, and a decimal is the user's
+    near = [meant(value) if "/" in text else value for text, value in zip(texts, known)]
     hint = f" ({' + '.join(map(str, near))} by as_exact with a total of 1)" if near != known and sum(near) == 1 else ""
     return f", which sum to {shown(sum(known, Fraction(0)))}{hint}"
 
