@@ -248,6 +248,8 @@ class Answers(unittest.TestCase):
         for document in [evidence.text, welungad.evidence(evidence.case)]:
             self.assertEqual(second.check(p, document).listed, ("β",))
         with self.assertRaisesRegex(ValueError, "^proof is evidence about other hypotheses: 'H1', 'H2'$"):
+            second.check(p, welungad.Graph([0.5, 0.5], {}).evidence(p))
+        with self.assertRaisesRegex(ValueError, "^proof is evidence about other hypotheses: 'H1', 'H2'$"):
             pair().check(p, welungad.evidence(evidence.case))
         self.assertEqual(welungad.Graph({"B": 0.5, "A": 0.5}, {}).check({"A": 0.001, "B": 0.9}, welungad.Graph({"A": 0.5, "B": 0.5}, {}).evidence(p)).listed,
                          ("A",))

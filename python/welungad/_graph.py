@@ -371,9 +371,10 @@ class Graph:
         return answered(check_answer(text, given, self._by_name), words, text, self._labels, case.text)
 
     def _hold_labels(self, proof: Evidence) -> None:
-        """Refuses evidence whose document has a name for another label than this graph. That for a text has names as labels."""
-        found = dict(zip(names_for(proof.names), proof.names))
-        if found not in (self._by_name, dict(zip(self._names, self._names))):
+        """Refuses evidence whose document has a name for another label than this graph. That for a text, of which there is no case, has
+        names as labels."""
+        found, of_text = dict(zip(names_for(proof.names), proof.names)), dict(zip(self._names, self._names))
+        if found != self._by_name and (proof.case or found != of_text):
             raise ValueError(f"proof is evidence about other hypotheses: {', '.join(map(repr, proof.names))}")
 
     def steps(self, p: Any, alpha: Given = ALPHA, priority: str = "first") -> Tuple[Step, ...]:
