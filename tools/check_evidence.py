@@ -34,7 +34,6 @@ from functools import reduce
 from itertools import accumulate, product, zip_longest
 
 ZERO, ONE, WIDEST = Fraction(0), Fraction(1), [0, 0]  # so far, the bits of the widest whole number, and the most coefficients
-getattr(sys, "set_int_max_str_digits", int)(0)  # whole numbers of more than 4,300 digits are read
 
 
 class Stop(Exception):
@@ -393,6 +392,7 @@ def answer(case, evidence, form="text", alpha=None):
 
 
 if __name__ == "__main__":
+    getattr(sys, "set_int_max_str_digits", int)(0)  # whole numbers of more than 4,300 digits are read
     parser = ArgumentParser(usage="check_evidence.py CASE EVIDENCE [--form text|csv|json] [--alpha N]")
     parser.add_argument("files", nargs=2, type=FileType("rb"))
     parser.add_argument("--form", choices=["text", "csv", "json"], default="text")

@@ -99,6 +99,7 @@ def main():
     parser.add_argument("--alpha")
     parser.add_argument("--sets", action="store_true")
     words = parser.parse_args()
+    getattr(sys, "set_int_max_str_digits", int)(0)  # else Python prints no number of more than 4,300 digits
     try:
         case = case_of(words.case.read(), words.form, words.alpha)
         require(case.p, "malformed: kind")

@@ -251,6 +251,7 @@ def main():
     parser.add_argument("--form", choices=["text", "csv", "json"], default="text")
     parser.add_argument("--alpha")
     words = parser.parse_args()
+    getattr(sys, "set_int_max_str_digits", int)(0)  # else Python prints no number of more than 4,300 digits
     try:
         given = words.case.read()
         case = case_of(re.sub(rb"(?ms)^[ \t]*stages[ \t].*", b"", given) if words.form == "text" else given, words.form, words.alpha)

@@ -347,6 +347,21 @@ class Checker(unittest.TestCase):
         self.assertEqual((done.returncode, done.stdout), (0, "yes\nlisted A B C\nend\n"))
         self.assertRegex(done.stderr, "^note: [0-9]+ bits, 1 coefficients: ")
 
+    def test_many_digits(self):
+        """Whether the scripts read and print numbers of more digits than Python does by itself, of which each text has fewer."""
+        one = "1" + 3990 * "0"
+        case = SEQUENCE.replace("edge H1 H2 1", f"edge H1 H2 1/{one}/{one}").replace("edge H2 H3 1", f"edge H2 H3 1/{one}")
+        proof = KEEP_PROOF.replace("exit 1 H1 1", f"exit 1 H1 {one}{one}/{one}{one}")
+        with tempfile.TemporaryDirectory() as room:
+            paths = [os.path.join(room, name) for name in ("case", "wide", "proof")]
+            for path, text in zip(paths, (SEQUENCE, case, proof)):
+                with open(path, "w", encoding="utf-8") as file:
+                    file.write(text)
+            for words, wanted in [(["check_evidence.py", paths[0], paths[2]], "yes\nlisted H1\n"), (["closed_test.py", paths[1], "--sets"], f"H2=1/{one}"),
+                                  (["draw.py", paths[1]], ">≈0</text>")]:
+                done = subprocess.run([sys.executable, os.path.join(TOOLS, words[0]), *words[1:]], capture_output=True, text=True, encoding="utf-8")
+                self.assertEqual((done.returncode, wanted in done.stdout), (0, True), done.stderr[-200:])
+
     def test_no_answer(self):
         """Whether what isn't decided ends with no status of a yes or a no."""
         deep = SEQUENCE.replace("edge H1 H2 1", "edge H1 H2 " + "(" * 4000 + "1" + ")" * 4000)

@@ -185,6 +185,15 @@ class Scripts(test_library.Rooms):
                               cwd="/", stdout=subprocess.PIPE, check=True)
         self.assertEqual(done.stdout, b"True set()\n")
 
+    @unittest.skipUnless(hasattr(sys, "get_int_max_str_digits"), "this Python has no limit of digits")
+    def test_the_interpreter_stays_as_it_is(self):
+        """Whether a page leaves Python's limit of digits, which guards the user's program, as it was."""
+        code = ("import sys, welungad\nbefore = sys.get_int_max_str_digits()\nwelungad.Graph([1], [[0]]).report([0.5])\n"
+                "print(before > 0, sys.get_int_max_str_digits() == before)")
+        done = subprocess.run([sys.executable, "-c", code], env={**os.environ, "PYTHONPATH": os.path.dirname(os.path.dirname(welungad.__file__))},
+                              cwd="/", stdout=subprocess.PIPE, check=True)
+        self.assertEqual(done.stdout, b"True True\n")
+
     @unittest.skipUnless(os.environ.get("WELUNGAD_INSTALLED"), "no environment that it is installed in")
     def test_the_installed_ones(self):
         self.assertEqual(_page.tools(), os.path.join(os.path.dirname(os.path.abspath(welungad.__file__)), "_scripts", "tools"))
