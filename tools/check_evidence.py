@@ -373,7 +373,7 @@ def case_of(given, form="text", alpha=None):
     """The case that bytes denote."""
     require((form == "csv") == (alpha is not None), "usage: --alpha gives the level of a sheet", status=2)
     try:
-        return read_case(given.decode("latin-1"), form, alpha and numeral(alpha, "usage: --alpha"))
+        return read_case(given.decode("latin-1"), form, None if alpha is None else numeral(alpha, "usage: --alpha"))
     except csv.Error as error:  # as for a field of more than 131,072 characters
         raise Stop(4, f"limit: {error}\n") from None
 

@@ -247,6 +247,7 @@ class Checker(unittest.TestCase):
         proof = "evidence 1\nstep H2\nstep H1\nflow 1 H2 1/3\nend\n"
         self.assertEqual(answer(sheet, proof, "csv", "0.025"), (0, "yes\nlisted H2 H1\nend\n"))
         self.assertEqual(answer(sheet, proof, "csv"), (2, "usage: --alpha gives the level of a sheet\n"))
+        self.assertEqual(answer(sheet, proof, "csv", ""), (3, "usage: --alpha: number\n"))
         self.assertEqual(answer(sheet.replace('"H2","1/3"', '"H9","1/3"'), proof, "csv", "1"), (3, "malformed: row 3 column 1: name\n"))
         self.assertEqual(answer(sheet.replace("0.005", "NA"), proof, "csv", "1"), (3, "malformed: case: p missing H2\n"))
 
