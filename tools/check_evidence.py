@@ -398,8 +398,11 @@ if __name__ == "__main__":
     parser.add_argument("--form", choices=["text", "csv", "json"], default="text")
     parser.add_argument("--alpha")
     words = parser.parse_args()
-    status, text = answer(*(file.read() for file in words.files), words.form, words.alpha)
+    try:
+        status, text = answer(*(file.read() for file in words.files), words.form, words.alpha)
+    except (OSError, MemoryError) as error:  # as `welungad` ends, since Python would end with the status of a no
+        status, text = (6, "read fault\n") if isinstance(error, OSError) else (8, "no memory\n")
     if WIDEST[0] > 59 or WIDEST[1] > 17:
         sys.stderr.write("note: %d bits, %d coefficients: `welungad check` may end with 5, at 127 bits or a degree of 32\n" % (*WIDEST,))
-    sys.stdout.write(text)
+    print(text, end="")  # if standard output is closed, the status alone answers
     sys.exit(status)
