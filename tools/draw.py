@@ -13,6 +13,7 @@ nothing is drawn. A case that cannot be read ends with the line and the status o
 import argparse
 import math
 import re
+import signal
 import sys
 from html import escape
 
@@ -31,8 +32,10 @@ def decimal(x):
 
 
 def short(x):
-    """A fraction, or its approximate value if it is long."""
-    return str(x) if len(str(x)) <= 9 else f"≈{float(x):.4g}"
+    """A fraction, or its approximate value if it is long; above all doubles the power of ten before it."""
+    if len(str(x)) <= 9:
+        return str(x)
+    return f"≈{float(x):.4g}" if x < 10**300 else f"≈10^{len(str(x.numerator // x.denominator)) - 1}"
 
 
 def shown(name):
@@ -265,4 +268,5 @@ def main():
 
 
 if __name__ == "__main__":
+    signal.signal(signal.SIGPIPE, signal.SIG_DFL)  # a reader may end first
     main()

@@ -14,6 +14,7 @@ These y are the flows, and these h the exits, of the conditions in docs/REPORTS.
 with whole rows. A removed hypothesis to which all of its weight would come back passes nothing on: its flows and exits are 0.
 """
 import re
+import signal
 import sys
 from argparse import ArgumentParser, FileType, RawDescriptionHelpFormatter
 from fractions import Fraction
@@ -245,4 +246,5 @@ def main():
 
 
 if __name__ == "__main__":
+    signal.signal(signal.SIGPIPE, signal.SIG_DFL)  # a reader may end first
     main()

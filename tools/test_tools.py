@@ -555,8 +555,24 @@ class Pictures(unittest.TestCase):
 
     def test_edge_text(self):
         """Whether an edge is written as a reader expects it."""
-        for text, wanted in [("1-\\epsilon", "1−ε"), ("(1-\\epsilon)/2", "1/2−1/2·ε"), ("\\epsilon^2", "ε²"), ("0.5", "1/2")]:
+        for text, wanted in [("1-\\epsilon", "1−ε"), ("(1-\\epsilon)/2", "1/2−1/2·ε"), ("\\epsilon^2", "ε²"), ("0.5", "1/2"),
+                             ("1-12345678901\\epsilon", "1−≈1.235e+10·ε"), ("1-1e400\\epsilon", "1−≈10^400·ε"), ("1/3-12e300\\epsilon^2", "1/3−≈10^301·ε²")]:
             self.assertEqual(draw.edge_text(check_evidence.expression(text, "")), wanted)
+
+
+class Readers(unittest.TestCase):
+    def test_a_reader_that_ends_first(self):
+        """Whether a script whose reader takes only the first lines, as `head` does, ends without a trace."""
+        names = [f"a-long-name-of-a-hypothesis-{i}" for i in range(64)]
+        edges = [f"edge {a} {b} 1/63" for a in names for b in names if a != b]
+        lines = ["alpha 1", "hypotheses " + " ".join(names), "p" + " 0" * 64, "weights 1" + " 0" * 63, *edges[: 63 * 8]]
+        with tempfile.NamedTemporaryFile("w", suffix=".txt") as file:
+            file.write("\n".join([*lines, ""]))
+            file.flush()
+            for words in (["draw.py", file.name], ["make_evidence.py", file.name]):
+                script = [sys.executable, os.path.join(TOOLS, words[0]), *words[1:]]
+                done = subprocess.run(["sh", "-c", '"$@" | head -c 1', "sh", *script], capture_output=True)
+                self.assertEqual((len(done.stdout), done.stderr), (1, b""), words)
 
 
 class Manual(unittest.TestCase):
