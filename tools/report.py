@@ -225,7 +225,8 @@ def staged_table(findings):
             rows.append(["", label_of(findings, name), "not rejected", "–", "–", "–", "–", start])
             continue
         n, it = found[name]
-        p, level = values.get((name, it.stage)), findings.level(name, it.stage, it.weight)
+        p = values.get((name, it.stage))
+        level = None if p is None else findings.level(name, it.stage, it.weight)
         if p is None or p > level:
             raise NotAReport(f"the report of stages rejects {name} at stage {it.stage}, whose p-value is not at most its level")
         decision = f"rejected, step {findings.steps[name]}, after look {n}"

@@ -544,7 +544,7 @@ class Stages(unittest.TestCase):
             (LOOKS, ""), ("end\n", ""), ("alpha 1/40", "alpha 1/20"), ("arrive OS 1 1/50\n", ""), ("OS 2 9/500", "OS 2 8/500"), ("OS 2 9/500", "OS 2 1/100"),
             ("arrive OS 1", "arrive DFS 1"), ("reject OS stage 2", "reject OS stage 1"), ("reject OS stage 2 weight 1", "reject OS stage 2 weight 4/5"),
             ("rejected PFS OS", "rejected OS PFS"), ("rejected PFS OS", "rejected PFS"), ("reject OS stage 2 weight 1\nrejected PFS OS", "rejected PFS"),
-            ("reject OS", "reject PFS"),
+            ("reject OS", "reject PFS"), ("reject OS stage 2", "reject OS stage 9"), ("reject OS stage 2", "reject OS stage 0"),
         ]:
             with self.subTest(new), self.assertRaises(reports.NotAReport):
                 self.assertIn(old, LOOKS)
