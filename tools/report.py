@@ -555,6 +555,17 @@ def content_of(path):
         return file.read()
 
 
+def put(text, path):
+    """Writes a page to a file, or to standard output if there is no path. `OSError`: it cannot be written."""
+    if path is not None:
+        return write(text, path)
+    try:
+        with open(1, "wb", closefd=False) as out:
+            out.write(text.encode("utf-8", "replace"))
+    except OSError as error:
+        raise OSError(f"standard output can't be written: {error.strerror or error}") from None
+
+
 def arguments():
     parser = argparse.ArgumentParser(description=__doc__, formatter_class=argparse.RawDescriptionHelpFormatter)
     parser.add_argument("case")
@@ -580,12 +591,9 @@ def main():
         status, text = document(content_of(words.case), run, words.form, words.alpha, os.path.basename(words.case), program=about(program),
                                 labels=None if labels is None else labels_in(labels), priority=words.priority, title=words.title,
                                 report=None if report is None else report.decode("latin-1"))
-        if words.out is not None:
-            write(text, words.out)
+        put(text, words.out)
     except (OSError, ValueError, NotAReport) as error:
         sys.exit(f"report.py: {error}")
-    if words.out is None:
-        sys.stdout.buffer.write(text.encode("utf-8", "replace"))
     sys.exit(status)
 
 

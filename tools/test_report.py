@@ -438,6 +438,22 @@ cat "$0.$command"
             self.assertIn("\ntest --priority ratio\n", test_tools.content(room, "program.words"))
             self.assertIn("welungad test --priority ratio &lt; case.txt", test_tools.content(room, "page.html"))
 
+    def test_an_output_that_cannot_be_written(self):
+        """Whether a page that cannot be printed is an error with one line."""
+        with tempfile.TemporaryDirectory() as room:
+            paths = [os.path.join(room, name) for name in ("case", "program")]
+            for path, text in zip(paths, (CASE + 5000 * "# a comment\n", "#!/bin/sh\ncat >/dev/null; echo 'malformed: kind'; exit 3\n")):
+                with open(path, "w", encoding="utf-8") as file:
+                    file.write(text)
+            os.chmod(paths[1], 0o755)
+            script = [sys.executable, os.path.join(TOOLS, "report.py"), paths[0], f"--program={paths[1]}"]
+            for shell, cause in [('exec "$@" >&-', "Bad file descriptor"), ('exec "$@" >/dev/full', "No space left on device"),
+                                 ('{ "$@"; echo $? >&2; } | head -c 1 >/dev/null', "Broken pipe")]:
+                done = subprocess.run(["sh", "-c", shell, "sh", *script], capture_output=True, text=True)
+                with self.subTest(cause):
+                    self.assertRegex(done.stderr, rf"^report\.py: standard output can't be written: {cause}\n(1\n)?$")
+                    self.assertEqual((done.returncode == 1, done.stdout), ("head" not in shell, ""))
+
     def test_program(self):
         """Whether the program of the installation or of the checkout that has the script is taken, and only else the one on the path."""
         with tempfile.TemporaryDirectory() as room:
