@@ -587,6 +587,8 @@ def main():
         program = words.program or found_program()
         if program is None:
             raise OSError("there is no program: name it by --program")
+        # a bare name is that of a file here, as its digest is, and none on the search path
+        program = os.path.abspath(program)
         labels, report = content_of(words.labels), content_of(words.report)
         status, text = document(content_of(words.case), run, words.form, words.alpha, os.path.basename(words.case), program=about(program),
                                 labels=None if labels is None else labels_in(labels), priority=words.priority, title=words.title,

@@ -438,6 +438,23 @@ cat "$0.$command"
             self.assertIn("\ntest --priority ratio\n", test_tools.content(room, "program.words"))
             self.assertIn("welungad test --priority ratio &lt; case.txt", test_tools.content(room, "page.html"))
 
+    def test_a_program_here(self):
+        """Whether the program that answers is the one whose digest the page has, also if another one of its name is on the path."""
+        with tempfile.TemporaryDirectory() as room:
+            os.makedirs(os.path.join(room, "path"))
+            for name, said in [("path/program", "there"), ("program", "here")]:
+                with open(os.path.join(room, name), "w", encoding="utf-8") as file:
+                    file.write(f"#!/bin/sh\necho 'malformed: {said}'; exit 3\n")
+                os.chmod(os.path.join(room, name), 0o755)
+            with open(os.path.join(room, "case"), "w", encoding="utf-8") as file:
+                file.write(CASE)
+            words = [sys.executable, os.path.join(TOOLS, "report.py"), "case", "--program=program"]
+            more = {**os.environ, "PATH": f"{room}/path:{os.environ['PATH']}"}
+            done = subprocess.run(words, cwd=room, capture_output=True, text=True, encoding="utf-8", env=more)
+            with open(os.path.join(room, "program"), "rb") as file:
+                digest = hashlib.sha256(file.read()).hexdigest()
+        self.assertEqual((done.returncode, digest in done.stdout, "malformed: here" in done.stdout), (3, True, True))
+
     def test_an_output_that_cannot_be_written(self):
         """Whether a page that cannot be printed is an error with one line."""
         with tempfile.TemporaryDirectory() as room:
