@@ -189,6 +189,10 @@ class BesideFractions(unittest.TestCase):
             with self.subTest(given), self.assertRaisesRegex(ValueError, "^the row reads as .*, which is .*, and not 1$"):
                 welungad.as_exact(given, total=1)
         self.assertEqual(welungad.as_exact([exact, 0.1 + 0.2], total=exact + Fraction(3, 10)), [exact, Fraction(3, 10)])
+        for given, total, message in [([0.5, "1e-9000"], 1, "1/2 \\+ a number of too many digits, which is a number of too many digits, and not 1"),
+                                      ([0.5], "1e9000", "1/2, which is 1/2, and not a number of too many digits")]:
+            with self.subTest(total), self.assertRaisesRegex(ValueError, f"^the row reads as {message}$"):
+                welungad.as_exact(given, total=total)
         for given, total in [(0.5, 1), ([0.5, True], None), ([0.5, 0.5], True), ([[0.5], [0.5]], None)]:
             with self.subTest(given), self.assertRaises(TypeError):
                 welungad.as_exact(given, total=total)

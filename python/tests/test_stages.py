@@ -46,6 +46,7 @@ class Stages(unittest.TestCase):
             self.assertEqual(trial().stages(own, LOOKS, alpha=0.05, at=at).case, half.case)
         for at, error, message in [([0.5], ValueError, "^at has 1 values, and there are 2 hypotheses$"), ({"PFS": 1}, ValueError, "^at: the hypothesis "),
                                    (0, ValueError, "^at of 'PFS' is 0, and not above 0 and at most 1$"), (None, TypeError, "^at of 'PFS' is a number, and not None$"),
+                                   ([1, "1/0"], ValueError, "^at of 'overall survival' is 1/0, which has no value within reach$"),
                                    ([1, "5/4"], ValueError, "^at of 'overall survival' is 5/4, and not above 0 and at most 1$"), ("-1/2", ValueError, "^at of 'PFS' is -1/2,")]:
             with self.subTest(at), self.assertRaisesRegex(error, message):
                 trial().stages(own, LOOKS, alpha=0.05, at=at)
@@ -74,6 +75,8 @@ class Stages(unittest.TestCase):
             (LEVELS, [("OS", 1, 0.1)], "^look 1: 'OS' is not the name of a hypothesis"),
             (LEVELS, [(["PFS"], 1, 0.1)], "^look 1: \\['PFS'\\] is not the name of a hypothesis"),
             (LEVELS, [LOOKS[0], ("PFS", 2, float("nan"))], "^the p-value of look 2 is nan"), ([[0.02, -0.1], [0.1, 0.1]], (), "^level 2 of 'PFS' is -0.1"),
+            ([[0.02, "1e-9000"], [0.1, 0.1]], (), "^level 2 of 'PFS' has too many digits$"),
+            ([[0.02, 0.03], ["1/0", 0.1]], (), "^level 1 of 'overall survival' is 1/0, which has no value within reach$"),
         ]:
             with self.subTest(message), self.assertRaisesRegex(ValueError, message):
                 trial().stages(levels, looks, alpha=0.05)

@@ -7,7 +7,7 @@ from fractions import Fraction
 from typing import Any, Dict, List, NamedTuple, Optional, Sequence, Union
 
 from ._hypotheses import hold_distinct, is_many, values_of
-from ._numbers import LARGEST_DENOMINATOR, Given, known_value, numeral, read_double
+from ._numbers import LARGEST_DENOMINATOR, Given, known_value, numeral, read_double, said
 
 _MOST_UNITS = 4
 _COUNTS = ("no units", "one unit", "two units", "three units", "four units")
@@ -95,5 +95,5 @@ def _with_total(given: Sequence[Any], values: Sequence[Fraction], total: Fractio
     """Returns a row as the fractions beside its doubles, which sum to the total with its other numbers."""
     found = [meant(value) if isinstance(it, float) else value for it, value in zip(given, values)]
     if sum(found) != total:
-        raise ValueError(f"the row reads as {' + '.join(map(str, found))}, which is {sum(found)}, and not {total}")
+        raise ValueError(f"the row reads as {' + '.join(map(said, found))}, which is {said(sum(found, Fraction(0)))}, and not {said(total)}")
     return found

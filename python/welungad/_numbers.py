@@ -151,6 +151,16 @@ def known_value(text: str, place: str) -> Fraction:
     return value
 
 
+def _is_long(number: Rational) -> bool:
+    """Whether a number has more digits than any that is written."""
+    return max(int(number.numerator).bit_length(), int(number.denominator).bit_length()) > _MOST_BITS
+
+
+def said(number: Fraction) -> str:
+    """Returns a number for a message."""
+    return "a number of too many digits" if _is_long(number) else str(number)
+
+
 def fraction_text(fraction: Rational) -> str:
     """Returns a fraction as the program reads it: n/d, or n if d is 1."""
     n, d = int(fraction.numerator), int(fraction.denominator)
@@ -243,7 +253,7 @@ def numeral(value: Given, place: str) -> str:
             raise ValueError(f"{place} is {float(value)!r}, and not from 0 to 1")
         return fraction_text(read_double(float(value)))
     if isinstance(value, Rational) and not _is_of_times(value):
-        if max(int(value.numerator).bit_length(), int(value.denominator).bit_length()) > _MOST_BITS:
+        if _is_long(value):
             raise ValueError(f"{place} has too many digits")
         return fraction_text(value)
     if isinstance(value, Decimal):

@@ -5,7 +5,7 @@ from typing import Any, List, Mapping, NamedTuple, Optional, Sequence, Tuple
 
 from ._hypotheses import frame_labels, frame_rows, hold_distinct, in_order, is_frame, is_many, order_of, rows_of, values_of
 from ._library import kind_of
-from ._numbers import fraction_text, known_value, numeral, whole
+from ._numbers import known_value, numeral, whole
 
 
 class Spend(NamedTuple):
@@ -67,12 +67,21 @@ def _levels(given: Any, labels: Sequence[str]) -> List[Any]:
     return in_order(given, labels, "levels")
 
 
+def _place(stage: int, label: str) -> str:
+    return f"level {stage} of {label!r}"
+
+
 def _list(given: Any, label: str, what: str) -> List[str]:
     """Returns the levels of a list, as numerals."""
     found = values_of(given, what)
     if found.labels is not None:
         raise TypeError(f"{what} are a list, one for each stage, and not of type {kind_of(given)}")
-    return [numeral(value, f"level {stage} of {label!r}") for stage, value in enumerate(found.values, 1)]
+    return [numeral(value, _place(stage, label)) for stage, value in enumerate(found.values, 1)]
+
+
+def _part(text: str, level: Fraction, place: str) -> str:
+    """Returns a level as a fraction of another one."""
+    return numeral(known_value(text, place) / level, place)
 
 
 def _spend(given: Any, label: str, level: Fraction) -> List[Spend]:
@@ -80,15 +89,16 @@ def _spend(given: Any, label: str, level: Fraction) -> List[Spend]:
     what = f"the levels of {label!r}"
     if isinstance(given, Mapping):
         return [Spend("table", label, [numeral(weight, f"a weight in {what}"), *_list(own, label, what)]) for weight, own in given.items()]
-    return [Spend("spend", label, [fraction_text(known_value(text, what) / level) for text in _list(given, label, what)])]
+    return [Spend("spend", label, [_part(text, level, _place(stage, label)) for stage, text in enumerate(_list(given, label, what), 1)])]
 
 
 def _weight_at(given: Any, label: str) -> Fraction:
     """Returns the weight at which the levels of a hypothesis count."""
-    text = numeral(given, f"at of {label!r}")
-    weight = known_value(text, "at")
+    place = f"at of {label!r}"
+    text = numeral(given, place)
+    weight = known_value(text, place)
     if not 0 < weight <= 1:
-        raise ValueError(f"at of {label!r} is {text}, and not above 0 and at most 1")
+        raise ValueError(f"{place} is {text}, and not above 0 and at most 1")
     return weight
 
 
