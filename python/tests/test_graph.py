@@ -5,6 +5,8 @@ import math
 import os
 import pickle
 import re
+import subprocess
+import sys
 import tempfile
 import unittest
 import warnings
@@ -333,6 +335,21 @@ class Answers(unittest.TestCase):
             picture.save(os.path.join(room, "graph.svg"))
             with open(os.path.join(room, "graph.svg"), encoding="utf-8") as file:
                 self.assertEqual(file.read(), picture.svg)
+            self.assertEqual(os.listdir(room), ["graph.svg"])
+
+    def test_a_picture_that_cannot_be_saved(self):
+        """Whether a file has the whole picture, or stays as it was and is alone in its folder."""
+        with tempfile.TemporaryDirectory() as room:
+            path = os.path.join(room, "graph.svg")
+            pair().draw().save(path)
+            before = os.stat(path).st_size
+            code = ("import resource, signal, sys, welungad\nsignal.signal(signal.SIGXFSZ, signal.SIG_IGN)\n"
+                    "picture = welungad.Graph([0.5, 0.5], [[0, 1], [1, 0]]).draw()\nresource.setrlimit(resource.RLIMIT_FSIZE, (1000, 1000))\n"
+                    "picture.save(sys.argv[1])")
+            package = os.path.dirname(os.path.dirname(welungad.__file__))
+            done = subprocess.run([sys.executable, "-c", code, path], env={**os.environ, "PYTHONPATH": package}, cwd="/", stderr=subprocess.PIPE, check=False)
+            self.assertIn(f"OSError: {path} can't be written: File too large", done.stderr.decode())
+            self.assertEqual((os.listdir(room), os.stat(path).st_size), (["graph.svg"], before))
 
     def test_draw_a_decision_on_a_text(self):
         self.assertIn("p 1/100", holm().draw(welungad.test(places.example("holm.txt"))).svg)

@@ -176,7 +176,7 @@ class Scripts(test_library.Rooms):
         folder = self.put_package("x")
         self.put("x/welungad/_scripts/tools/report.py", b"import draw\n")
         self.assertIn("No such file or directory: '" + f"{folder}/welungad/_scripts/tools/draw.py'",
-                      test_library.say(folder, "from welungad import _page; _page.write_page('', '/nowhere/x')"))
+                      test_library.say(folder, "from welungad import _page; _page._report()"))
 
     def test_other_modules_of_these_names(self):
         code = ("import sys, types\nsys.modules['draw'] = types.ModuleType('draw')\nimport welungad\n"

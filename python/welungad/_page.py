@@ -6,7 +6,7 @@ import builtins
 import functools
 import os
 from types import ModuleType
-from typing import Any, Dict, List, Optional, Sequence, Union
+from typing import Any, Dict, List, Optional, Sequence
 
 from ._library import PACKAGE, Text, about, checkout, prefixes, run
 from ._refusals import BadAnswer
@@ -73,8 +73,3 @@ def page_of(case: Text, printed: str, words: Sequence[str], labels: Sequence[str
     except report.NotAReport as error:
         raise BadAnswer(f"there is no page: {error}") from None
     return page
-
-
-def write_page(page: str, path: Union[str, "os.PathLike[str]"]) -> None:
-    """Writes a page to a file, which has all of it or stays as it was. `OSError`: it cannot be written."""
-    _report().write(page, os.fspath(path))

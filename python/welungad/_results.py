@@ -4,7 +4,7 @@ from fractions import Fraction
 from os import PathLike
 from typing import Dict, FrozenSet, Sequence, Tuple, TypeVar, Union
 
-from ._page import write_page
+from ._files import write_whole
 
 
 @dataclass(frozen=True)
@@ -254,9 +254,8 @@ class Picture:
     svg: str = field(repr=False)
 
     def save(self, path: Union[str, "PathLike[str]"]) -> None:
-        """Writes the picture to a file."""
-        with open(path, "w", encoding="utf-8") as file:
-            file.write(self.svg)
+        """Writes the picture to a file, which has all of it or stays as it was. `OSError`: it cannot be written."""
+        write_whole(self.svg, path)
 
     def _repr_svg_(self) -> str:
         return self.svg
@@ -270,4 +269,4 @@ class Page:
 
     def save(self, path: Union[str, "PathLike[str]"]) -> None:
         """Writes the page to a file, which has all of it or stays as it was. `OSError`: it cannot be written."""
-        write_page(self.html, path)
+        write_whole(self.html, path)
