@@ -97,6 +97,10 @@ class Calls(unittest.TestCase):
         self.assertEqual(welungad.run(["test", "\udcff"]), (10, b""))
         with self.assertRaisesRegex(ValueError, "^word 2 holds a byte 0$"):
             welungad.run(["test", "--form\0"])
+        for call, named in [(lambda: welungad.run(["test", "x\ud800"]), "word 2"), (lambda: welungad.test("alpha 1\n\ud800"), "case"),
+                            (lambda: welungad.check("alpha 1\n", "\ud800"), "proof")]:
+            with self.subTest(named), self.assertRaisesRegex(ValueError, f"^{named} has '\\\\ud800', which is half a character$"):
+                call()
         with self.assertRaises(TypeError):
             welungad.run("test")
 

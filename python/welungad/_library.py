@@ -172,9 +172,12 @@ def kind_of(value: object) -> str:
 
 
 def bytes_of(text: Text, argument: str) -> bytes:
-    """Returns the bytes of a text. `TypeError`: it is not a text, and the message names the argument."""
+    """Returns the bytes of a text. `TypeError`: it is not a text. `ValueError`: it has half a character. The messages name the argument."""
     if isinstance(text, str):
-        return text.encode("utf-8", "surrogateescape")
+        try:
+            return text.encode("utf-8", "surrogateescape")
+        except UnicodeEncodeError as error:
+            raise ValueError(f"{argument} has {text[error.start]!r}, which is half a character") from None
     if isinstance(text, (bytes, bytearray, memoryview)):
         return bytes(text)
     raise TypeError(f"{argument} is a text, as str or bytes, and not of type {kind_of(text)}")
@@ -204,7 +207,7 @@ def run(words: Iterable[Text], case: Text = b"", proof: Text = b"") -> Tuple[int
     Calls from several threads run side by side. A call that has begun cannot be stopped.
 
     `TypeError`: a word, the case or the proof is not a text.
-    `ValueError`: a word holds a byte 0.
+    `ValueError`: a word holds a byte 0, or a text holds half a character.
     `OSError`: the library is not found, is not the one that was built, or has another interface.
     """
     joined, case, proof = _joined(words), bytes_of(case, "case"), bytes_of(proof, "proof")
