@@ -199,6 +199,10 @@ class Loaded(Rooms):
         made = self.make("libwelungad.so", INTERFACE % 1, RUN_AS % "*needed = out_len + 1; return 0;")
         self.assertIn("BadAnswer: the library gives 65536 of 65537 bytes of its text, which is no whole answer",
                       say(folder, self.RUN % "", WELUNGAD_LIBRARY=made))
+        # a library that never has room enough
+        for needed in ("3", "out_len"):
+            made = self.make("libwelungad.so", INTERFACE % 1, RUN_AS % f"*needed = {needed}; return 7;")
+            self.assertRegex(say(folder, self.RUN % "", WELUNGAD_LIBRARY=made), "BadAnswer: the library asks for [0-9]+ bytes for its text, and had 65536")
 
 
 class Programs(Rooms):

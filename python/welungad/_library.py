@@ -222,6 +222,8 @@ def run(words: Iterable[Text], case: Text = b"", proof: Text = b"") -> Tuple[int
         )
         if status != _ROOM:
             break
+        if needed.value <= len(out):
+            raise BadAnswer(f"the library asks for {needed.value} bytes for its text, and had {len(out)}")
         out = ctypes.create_string_buffer(needed.value)
     if needed.value > len(out):
         raise BadAnswer(f"the library gives {len(out)} of {needed.value} bytes of its text, which is no whole answer")
