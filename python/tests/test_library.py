@@ -220,6 +220,7 @@ class Programs(Rooms):
         statement = "from welungad import _program; print(_program.program_path())"
         os.chmod(program, 0o755)
         self.assertEqual(say(folder, statement, PATH=os.path.dirname(program)), f"{program}\n")
+        self.assertEqual(say(folder, f"import os; os.chdir({self.room!r}); {statement}", PATH="bin"), f"{program}\n")
         os.chmod(program, 0o644)
         said = say(folder, statement, PATH=os.path.dirname(program))
         self.assertIn(f"OSError: the program welungad is not found. The places tried: {sys.prefix}/bin/welungad, and those of the search path", said)

@@ -36,6 +36,8 @@ def program_path() -> str:
     found = next((path for path in tried if os.path.isfile(path) and os.access(path, os.X_OK)), None)
     if found is None and not os.environ.get("WELUNGAD"):
         found = shutil.which(_NAME)
+        # it may be run in another folder
+        found = found and os.path.abspath(found)
     if found is None:
         where = ", ".join(tried) + ("" if os.environ.get("WELUNGAD") else ", and those of the search path")
         raise OSError(f"the program welungad is not found. The places tried: {where}. Let the environment variable WELUNGAD name it")
