@@ -83,6 +83,22 @@ class Names(unittest.TestCase):
         with self.assertRaisesRegex(TypeError, "^names: label 2 is a text, and not 2 of type int$"):
             _hypotheses.hold_labels(["A", 2], "names")
 
+    def test_many_labels(self):
+        """Whether labels are compared about once each, since a column of a large frame may be given by mistake."""
+        compared = []
+
+        class Compared(str):
+            __hash__ = str.__hash__
+
+            def __eq__(self, other):
+                compared.append(None)
+                return str.__eq__(self, other)
+
+        labels = [Compared(f"patient {number}") for number in range(500)]
+        with self.assertRaisesRegex(ValueError, "^p: 'patient 0' is not the name of a hypothesis"):
+            _hypotheses.in_order(dict(zip(labels, labels)), AB, "p")
+        self.assertLess(len(compared), 5000)
+
     def test_labels_of_other_classes_of_text(self):
         for labels, texts in [([Dose.LOW, Dose.HIGH], ("low", "high")), ([Shown("A"), Shown("B")], AB)]:
             with self.subTest(texts):

@@ -5,6 +5,7 @@ label is made from it, as R makes it. Values that have labels are put in the ord
 class; values without labels are in that order already. Nothing that cannot be matched once and wholly is taken.
 """
 import re
+from collections import Counter
 from typing import Any, List, Mapping, NamedTuple, Optional, Sequence, Tuple
 
 from ._library import kind_of
@@ -38,10 +39,9 @@ def names_for(labels: Sequence[str]) -> Tuple[str, ...]:
 
 def hold_distinct(labels: Sequence[Any], argument: str) -> None:
     """Refuses labels of which one occurs twice. The message names the argument and the label."""
-    listed = list(labels)
-    for label in listed:
-        if listed.count(label) > 1:
-            raise ValueError(f"{argument}: the label {label!r} occurs {listed.count(label)} times")
+    for label, count in Counter(labels).items():
+        if count > 1:
+            raise ValueError(f"{argument}: the label {label!r} occurs {count} times")
 
 
 def hold_labels(labels: Sequence[str], argument: str) -> Tuple[str, ...]:
