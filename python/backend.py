@@ -41,23 +41,25 @@ def get_requires_for_build_wheel(config_settings: Settings = None) -> List[str]:
 
 def build_wheel(wheel_directory: str, config_settings: Settings = None, metadata_directory: Optional[str] = None) -> str:
     """Writes the wheel, and returns its name."""
+    target = os.path.abspath(wheel_directory)
     with _copy() as folder:
         _run_setuptools(folder)
         room = os.path.join(folder, "lib")
         has_library = _add_library(os.path.join(room, "welungad"))
         _add_scripts(os.path.join(room, "welungad"))
-        return _write(wheel_directory, room, _metadata(folder), has_library)
+        return _write(target, room, _metadata(folder), has_library)
 
 
 def build_editable(wheel_directory: str, config_settings: Settings = None, metadata_directory: Optional[str] = None) -> str:
     """Writes a wheel that leads to this folder, and returns its name."""
+    target = os.path.abspath(wheel_directory)
     with _copy() as folder:
         _run_setuptools(folder)
         room = os.path.join(folder, "pth")
         os.mkdir(room)
         with open(os.path.join(room, "welungad.pth"), "w", encoding="utf-8") as file:
             file.write(_HERE + "\n")
-        return _write(wheel_directory, room, _metadata(folder), False)
+        return _write(target, room, _metadata(folder), False)
 
 
 def build_sdist(sdist_directory: str, config_settings: Settings = None) -> str:

@@ -30,9 +30,9 @@ class Wheels(unittest.TestCase):
         self.addCleanup(room.cleanup)
         self.room = room.name
 
-    def build(self, call="build_wheel", **environment):
+    def build(self, call="build_wheel", where=None, **environment):
         """Builds a wheel as pip does, and returns what is said."""
-        code = f"import sys; sys.path.insert(0, {SOURCES!r}); import backend; print(backend.{call}({self.room!r}))"
+        code = f"import sys; sys.path.insert(0, {SOURCES!r}); import backend; print(backend.{call}({where or self.room!r}))"
         kept = {name: value for name, value in os.environ.items() if not name.startswith("WELUNGAD")}
         done = subprocess.run([sys.executable, "-c", code], cwd=SOURCES, env={**kept, **environment}, stdout=subprocess.PIPE, stderr=subprocess.PIPE,
                               check=False)
@@ -93,6 +93,12 @@ class Wheels(unittest.TestCase):
         name = self.build("build_editable")
         with zipfile.ZipFile(os.path.join(self.room, name)) as wheel:
             self.assertEqual(wheel.read("welungad.pth").decode(), SOURCES + "\n")
+
+    def test_a_folder_seen_from_the_sources(self):
+        where = os.path.relpath(os.path.realpath(self.room), os.path.realpath(SOURCES))
+        for call in ("build_wheel", "build_editable"):
+            name = self.build(call, where, WELUNGAD_LIBRARY=self.library(b"abc", b"abc"))
+            self.assertTrue(os.path.isfile(os.path.join(self.room, name)), name)
 
     def test_no_source_distribution(self):
         self.assertRegex(self.build("build_sdist"), "^welungad: there is no source distribution")
