@@ -18,7 +18,7 @@ import sys
 import sysconfig
 import tempfile
 import zipfile
-from typing import Any, Dict, Iterator, List, Optional
+from typing import Any, Dict, Iterator, List, Optional, Tuple
 
 with contextlib.suppress(OSError, NameError):
     sys.dont_write_bytecode = True
@@ -27,6 +27,7 @@ with contextlib.suppress(OSError, NameError):
 
 _HERE = os.path.dirname(os.path.abspath(__file__))
 _SOURCES = ("pyproject.toml", "README.md", "welungad")
+_LICENCES = ("LICENSE", "LICENSE-MIT", "LICENSE-APACHE")
 _LEAST = 61
 _LIBRARY = "libwelungad.so"
 _LONG_AGO = (1980, 1, 1, 0, 0, 0)
@@ -169,6 +170,13 @@ def _files(room: str) -> Iterator[str]:
             yield os.path.join(folder, name)
 
 
+def _licences() -> Iterator[Tuple[str, bytes]]:
+    """Yields the names and the texts of the licences, which are in the folder above this one: each copy has to have them."""
+    for name in _LICENCES:
+        with contextlib.suppress(FileNotFoundError), open(os.path.join(_HERE, "..", name), "rb") as file:
+            yield name, file.read()
+
+
 def _write(wheel_directory: str, room: str, metadata: str, has_library: bool) -> str:
     """Writes the files below a folder as a wheel, and returns its name. The same files make the same bytes."""
     platform = sysconfig.get_platform().replace("-", "_").replace(".", "_") if has_library else "any"
@@ -181,6 +189,8 @@ def _write(wheel_directory: str, room: str, metadata: str, has_library: bool) ->
         with open(path, "rb") as file:
             contents[os.path.relpath(path, room).replace(os.sep, "/")] = file.read()
     contents[f"{information}/METADATA"] = metadata.encode("utf-8")
+    for licence, content in _licences():
+        contents[f"{information}/licenses/{licence}"] = content
     contents[f"{information}/WHEEL"] = head.encode("ascii")
     lines = [f"{name},{_digest(content)},{len(content)}\n" for name, content in contents.items()]
     contents[f"{information}/RECORD"] = "".join([*lines, f"{information}/RECORD,,\n"]).encode("utf-8")

@@ -71,6 +71,7 @@ class Wheels(unittest.TestCase):
         wanted = {f"welungad/{it}" for it in os.listdir(os.path.join(SOURCES, "welungad")) if it.endswith(".py")} | {"welungad/py.typed"}
         wanted |= {f"welungad/_scripts/tools/{it}.py" for it in ("report", "findings", "reports", "refusals", "draw", "make_evidence", "check_evidence")}
         wanted.add("welungad/_scripts/docs/REFUSALS.md")
+        wanted |= {f"{information}/licenses/{it}" for it in ("LICENSE", "LICENSE-MIT", "LICENSE-APACHE")}
         self.assertEqual(wanted - set(names), set())
 
     def test_the_same_files_make_the_same_bytes(self):
