@@ -660,17 +660,21 @@ class Install(Room):
             self.assertEqual(snapshot(self.prefix), before)
 
     def test_not_removable(self):
-        """Whether `uninstall` removes nothing where it can't write, and nothing outside of the prefix, whatever the list says."""
+        """Whether `uninstall` removes nothing where it can't write, and it and a further installation remove nothing outside of the
+        prefix, whatever the list says."""
         self.install()
         before = snapshot(self.prefix)
         if IS_ROOT:
             self.is_refused(self.run_script("uninstall", self.prefix, user=NOBODY), "can't be written")
             self.assertEqual(snapshot(self.prefix), before)
-        self.write("../outside/a", "another's")
-        with open(os.path.join(self.prefix, "share", "welungad", "installed"), "a", encoding="utf-8") as file:
-            file.write("../outside/a\nlib/../../outside/a\n../outside/\n")
-        self.uninstall()
-        self.assertTrue(os.path.exists(self.path("outside", "a")))
+        for name in ("a", "__pycache__/a"):
+            self.write(f"../outside/{name}", "another's")
+        for script in (self.install, self.uninstall):
+            with open(os.path.join(self.prefix, "share", "welungad", "installed"), "a", encoding="utf-8") as file:
+                file.write("../outside/a\nlib/../../outside/a\n../outside/\nshare/welungad/../../../outside/\n")
+            script()
+            for name in ("a", "__pycache__/a"):
+                self.assertTrue(os.path.exists(self.path("outside", name)), name)
         self.assertFalse(os.path.exists(self.prefix))
 
 
