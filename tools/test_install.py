@@ -436,6 +436,19 @@ class Install(Room):
         with open(os.path.join(self.prefix, "share", "welungad", "identity"), encoding="utf-8") as file:
             self.assertIn("checkout edited\n", file.read())
 
+    def test_no_status(self):
+        """Whether a git that does not say what is edited, or which commit it is, is an error, with the library and without it."""
+        real = shutil.which("git")
+        for has_library in (True, False):
+            if not has_library:
+                shutil.rmtree(os.path.join(self.top, "c", "out"))
+            for command, words in (("status", "git cannot say what is edited"), ("rev-parse HEAD", "")):
+                self.write("../signs/git", f'#!/bin/sh\ncase " $* " in *" {command} "*) exit 128 ;; esac\nexec {real} "$@"\n', 0o755)
+                done = self.run_script("install", self.prefix, PATH=f"{self.path('signs')}:{self.environment['PATH']}")
+                self.assertEqual((done[0] > 0, done[1]), (True, ""))
+                self.assertIn(words, done[2])
+                self.assertFalse(os.path.exists(self.prefix))
+
     def test_hook(self):
         """Whether what a hook names of another repository is not taken for what the checkout is."""
         self.install()
