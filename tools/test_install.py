@@ -552,6 +552,8 @@ class Install(Room):
             self.assertEqual(self.call(["./u", name], where=self.path("here"), CDPATH=f"{self.room}:/"), (0, "", ""))
         self.assertEqual(sorted(os.listdir(self.path("here"))), ["a prefix", "i", "u"])
         self.assertFalse(os.path.exists(self.prefix))
+        for name in (self.path("two\nlines"), "two\nlines"):
+            self.is_refused(self.run_script("install", name, where=self.room), "PREFIX has a line feed")
         for words in ([], [""], ["a", "b"], ["--help"]):
             self.is_refused(self.run_script("install", *words), "usage: ./install PREFIX", status=2)
             self.is_refused(self.run_script("uninstall", *words), "usage: ./uninstall PREFIX", status=2)
