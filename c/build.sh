@@ -42,7 +42,7 @@ link_libraries() {
     objcopy --keep-global-symbols="$room/exported" "$room/welungad.o"
     ar rcs "$room/libwelungad.a" "$room/welungad.o"
     cc -shared -o "$room/libwelungad.so.$release" -Wl,-soname,"libwelungad.so.$interface" -Wl,-z,defs -Wl,-z,now -Wl,-z,relro \
-        -Wl,--version-script="$here/welungad.map" "$room/welungad.o"
+        -Xlinker --version-script="$here/welungad.map" "$room/welungad.o"
     ln -s "libwelungad.so.$release" "$room/libwelungad.so.$interface"
     ln -s "libwelungad.so.$interface" "$room/libwelungad.so"
 }

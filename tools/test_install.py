@@ -729,6 +729,13 @@ class Library(Room):
         self.assertEqual(self.run_script("c/build.sh", "--force")[0], 0)
         self.assertEqual(self.builds(), 9)
 
+    def test_a_comma_in_the_path(self):
+        """Whether the library is built in a folder with a comma in its name, at which compilers part the words of the linker."""
+        os.rename(self.top, self.path("phase 2, phase 3"))
+        self.top = self.path("phase 2, phase 3")
+        self.assertEqual(self.builds(), 1)
+        self.assertTrue(os.path.isfile(self.out("libwelungad.so")))
+
     def test_edited_meanwhile(self):
         """Whether an edit during the build is found, also if it is committed meanwhile."""
         for number, edit in enumerate(("yes", "commit"), 1):
