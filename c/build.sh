@@ -47,6 +47,13 @@ link_libraries() {
     ln -s "libwelungad.so.$interface" "$room/libwelungad.so"
 }
 
+case $#${1-} in
+0 | 1--force) ;;
+*)
+    echo "usage: c/build.sh [--force]" >&2
+    exit 2
+    ;;
+esac
 # shellcheck disable=SC2086 # a list of paths without blanks
 now=$(trees $library_sources)
 if [ "${1-}" != --force ] && [ -z "$(finding "$stamp" "$now" "$out/libwelungad.so" "$out/libwelungad.a")" ]; then

@@ -728,6 +728,9 @@ class Library(Room):
             self.assertEqual([self.builds(), self.builds()], [number, number])
         self.assertEqual(self.run_script("c/build.sh", "--force")[0], 0)
         self.assertEqual(self.builds(), 9)
+        for words in (["--help"], ["-force"], [""], ["--force", "x"]):
+            self.is_refused(self.run_script("c/build.sh", *words), "usage: c/build.sh [--force]", status=2)
+        self.assertEqual(self.builds(), 9)
 
     def test_a_comma_in_the_path(self):
         """Whether the library is built in a folder with a comma in its name, at which compilers part the words of the linker."""
