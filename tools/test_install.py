@@ -261,6 +261,15 @@ class Program(Room):
         self.git("checkout", "-q", ".")
         self.assertEqual(self.run_script("welungad")[:2], (0, "2 0\n"))
 
+    def test_no_stamp(self):
+        """Whether a stamp that can't be written ends with a status that no command has."""
+        self.commit()
+        os.makedirs(os.path.join(self.top, "crates", "welungad", "out", "stamp.new"))
+        for words in (["check", "x"], []):
+            status, said, errors = self.run_script("welungad", *words)
+            self.assertEqual((status, said), (125, ""), errors)
+            self.assertTrue(errors.endswith("/crates/welungad/out/stamp can't be written\n"), errors)
+
     def test_link(self):
         """Whether a symbolic link to the script runs it, from any folder and under CDPATH."""
         self.build()
