@@ -150,6 +150,13 @@ class Loaded(Rooms):
                         self.assertIn(wanted, said)
                         self.assertEqual("loaded" in said, content is None)
 
+    def test_one_that_the_loader_alone_knows(self):
+        """Whether it is found by its soname, without the link that compilers take, which a system may lack."""
+        folder = self.put_package("site-packages")
+        for name in ("libwelungad.so.1", "libwelungad.so"):
+            made = self.make(f"{name} alone/{name}", INTERFACE % 1, RUN)
+            self.assertEqual(say(folder, self.RUN % "", LD_LIBRARY_PATH=os.path.dirname(made)), "0 b''\n")
+
     def test_an_installation_that_does_not_name_it(self):
         folder = self.put_package("prefix/share/welungad/python")
         made = self.make("prefix/lib/libwelungad.so", INTERFACE % 1, RUN)

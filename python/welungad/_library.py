@@ -1,4 +1,5 @@
 """The calls of the C library: where the library is, whether it is the one that was built, and `run`, `readings` and `test_rows`."""
+import contextlib
 import ctypes
 import functools
 import hashlib
@@ -61,6 +62,10 @@ def _found() -> str:
 
 
 def _load(path: str) -> ctypes.CDLL:
+    if path == _NAME:
+        # by its soname, since a system may lack the link that compilers take
+        with contextlib.suppress(OSError):
+            return ctypes.CDLL(f"{_NAME}.{INTERFACE}")
     try:
         return ctypes.CDLL(path)
     except OSError as error:
