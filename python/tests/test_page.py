@@ -1,6 +1,8 @@
 """Tests of the page about a decision: what it has, with the user's labels, how it is written, and where its scripts are."""
 import html.parser
+import inspect
 import os
+import pathlib
 import subprocess
 import sys
 import tempfile
@@ -128,9 +130,10 @@ class Pages(unittest.TestCase):
         with tempfile.TemporaryDirectory() as room:
             path, pipe = os.path.join(room, "page.html"), os.path.join(room, "pipe")
             os.mkfifo(pipe)
-            page = graph.report([0.01, 0.02], path)
+            page = graph.report([0.01, 0.02], pathlib.Path(path))
             with open(path, encoding="utf-8") as file:
                 self.assertEqual(file.read(), page.html)
+            self.assertIn("PathLike", str(inspect.signature(welungad.Graph.report).parameters["file"].annotation))
             for wrong, cause in [(os.path.join(room, "no", "page.html"), "No such file or directory"), (room, "it is not a file"), (pipe, "it is not a file"),
                                  (os.path.join(path, "x"), "Not a directory")]:
                 with self.assertRaisesRegex(OSError, f"can't be written: {cause}$"):

@@ -427,8 +427,8 @@ class Graph:
                 self._hold_own(decision, "decision")
         return picture_of(self.components, self._labels, decision)
 
-    def report(self, decided: Any, file: Optional[str] = None, alpha: Optional[Given] = None, priority: Optional[str] = None,
-               title: Optional[str] = None) -> Page:
+    def report(self, decided: Any, file: Optional[Union[str, "os.PathLike[str]"]] = None, alpha: Optional[Given] = None,
+               priority: Optional[str] = None, title: Optional[str] = None) -> Page:
         """Returns a page about a decision, for people who read it, and writes it to a file if one is named.
 
         `decided` is what `test` or `stages` of this graph returned, or p-values, which are then tested at `alpha` and by `priority`.
