@@ -117,7 +117,12 @@ finding() {
     for file in "$@"; do
         if [ ! -r "$file" ]; then
             echo "${file##*/} is missing"
-        elif [ "$(stamped "$stamp" "sha256 ${file##*/}")" != "$(checksum "$file")" ]; then
+            continue
+        fi
+        found=$(checksum "$file")
+        if [ -z "$found" ]; then
+            echo "${file##*/} has no checksum, since sha256sum says none"
+        elif [ "$(stamped "$stamp" "sha256 ${file##*/}")" != "$found" ]; then
             echo "${file##*/} is not the file that was built"
         fi
     done

@@ -479,6 +479,20 @@ class Install(Room):
         self.is_refused(self.run_script("install", self.prefix), "not the program that was proved", "not the file that was built")
         self.assertFalse(os.path.exists(self.prefix))
 
+    def test_no_checksums(self):
+        """Whether nothing is installed where no checksum is made, also if none was made for the stamp."""
+        path = self.path_without("sha256sum")
+        stamp = os.path.join(self.top, "crates", "welungad", "out", "stamp")
+        with open(stamp, encoding="utf-8") as file:
+            text = file.read()
+        self.write("crates/welungad/out/welungad", "garbage", 0o755)
+        for stamped in (re.sub("sha256 welungad .*", "sha256 welungad ", text), re.sub("sha256 .*\n", "", text), text):
+            self.write(stamp, stamped)
+            status, said, errors = self.run_script("install", self.prefix, PATH=path)
+            self.assertEqual((status, said), (1, ""), errors)
+            self.assertIn("welungad has no checksum, since sha256sum says none", errors)
+            self.assertFalse(os.path.exists(self.prefix))
+
     def test_another_library(self):
         """Whether a library is refused that has no stamp, an edited one, that of other bytes, or of other sources, or is not whole."""
         stamp = os.path.join(self.top, "c", "out", "stamp")
