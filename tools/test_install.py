@@ -440,10 +440,12 @@ class Install(Room):
         for line in (f"checkout {head}", f"commit {head}", f"library commit {head}", "kit a-kit logic 1"):
             self.assertIn(line, lines)
         self.assertEqual(lines[0], f"release {content('VERSION').strip()}")
-        self.write("docs/FORMATS.md", "edited\n")
-        self.install()
-        with open(os.path.join(self.prefix, "share", "welungad", "identity"), encoding="utf-8") as file:
-            self.assertIn("checkout edited\n", file.read())
+        for name, text, mode in (("docs/FORMATS.md", "edited\n", 0o644), ("uninstall", content("uninstall") + "\n", 0o755)):
+            self.git("checkout", "-q", ".")
+            self.write(name, text, mode)
+            self.install()
+            with open(os.path.join(self.prefix, "share", "welungad", "identity"), encoding="utf-8") as file:
+                self.assertIn("checkout edited\n", file.read(), name)
 
     def test_no_status(self):
         """Whether a git that does not say what is edited, or which commit it is, is an error, with the library and without it."""
