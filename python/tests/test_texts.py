@@ -101,8 +101,9 @@ class Calls(unittest.TestCase):
                             (lambda: welungad.check("alpha 1\n", "\ud800"), "proof")]:
             with self.subTest(named), self.assertRaisesRegex(ValueError, f"^{named} has '\\\\ud800', which is half a character$"):
                 call()
-        with self.assertRaises(TypeError):
-            welungad.run("test")
+        for words in ["test", {"catalogue", "holm"}, {"catalogue": "holm"}, {"catalogue": 1, "holm": 2}.keys()]:
+            with self.subTest(words), self.assertRaisesRegex(TypeError, "^words are a list of texts, one for each word, in their order$"):
+                welungad.run(words)
 
     def test_wrong_types(self):
         case = example("holm.txt")

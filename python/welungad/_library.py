@@ -7,7 +7,7 @@ import os
 import sys
 import threading
 from array import array
-from typing import Any, Callable, Iterable, List, NamedTuple, Optional, Tuple, Union
+from typing import AbstractSet, Any, Callable, Iterable, List, Mapping, NamedTuple, Optional, Tuple, Union
 
 from ._refusals import BadAnswer
 
@@ -190,8 +190,8 @@ def bytes_of(text: Text, argument: str) -> bytes:
 
 def _joined(words: Iterable[Text]) -> bytes:
     """Returns the words, each ended by a byte 0."""
-    if isinstance(words, (str, bytes, bytearray, memoryview)):
-        raise TypeError("words are a list of texts, one for each word")
+    if isinstance(words, (str, bytes, bytearray, memoryview, AbstractSet, Mapping)):
+        raise TypeError("words are a list of texts, one for each word, in their order")
     try:
         listed = list(words)
     except TypeError:
