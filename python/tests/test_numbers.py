@@ -1,5 +1,6 @@
 """Tests of numbers: the table of readings, the rule by its definition, and what is a number."""
 import array
+import numbers
 import os
 import random
 import struct
@@ -279,6 +280,30 @@ class Kinds(unittest.TestCase):
     def test_no_numbers(self):
         for given in [True, False, None, b"0.5", 0.5j, object(), {0.5}, [None], iter([0.5])]:
             with self.subTest(given), self.assertRaises(TypeError):
+                welungad.as_exact(given)
+
+    def test_rationals_of_other_packages(self):
+        class Third:
+            """As a rational of gmpy2."""
+
+            numerator, denominator = 1, 3
+
+        class Methods:
+            """As a rational of Sage, whose parts are methods."""
+
+            def numerator(self):
+                return 1
+
+            denominator = numerator
+
+        class NoParts:
+            """As a rational of an early sympy, whose parts have other names."""
+
+        for kind in (Third, Methods, NoParts):
+            numbers.Rational.register(kind)
+        self.assertEqual(welungad.as_exact(Third()), Fraction(1, 3))
+        for given in [Methods(), NoParts()]:
+            with self.subTest(given), self.assertRaisesRegex(TypeError, f"^number is a number, and not of type {type(given).__name__}$"):
                 welungad.as_exact(given)
 
     def test_no_value(self):

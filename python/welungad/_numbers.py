@@ -151,6 +151,11 @@ def known_value(text: str, place: str) -> Fraction:
     return value
 
 
+def _has_parts(number: Any) -> bool:
+    """Whether a rational has its two parts as Python's own have them; Sage has methods in their place."""
+    return all(hasattr(number, part) and not callable(getattr(number, part)) for part in ("numerator", "denominator"))
+
+
 def _is_long(number: Rational) -> bool:
     """Whether a number has more digits than any that is written."""
     return max(int(number.numerator).bit_length(), int(number.denominator).bit_length()) > _MOST_BITS
@@ -252,7 +257,7 @@ def numeral(value: Given, place: str) -> str:
         if not 0 <= value <= 1:
             raise ValueError(f"{place} is {float(value)!r}, and not from 0 to 1")
         return fraction_text(read_double(float(value)))
-    if isinstance(value, Rational) and not _is_of_times(value):
+    if isinstance(value, Rational) and not _is_of_times(value) and _has_parts(value):
         if _is_long(value):
             raise ValueError(f"{place} has too many digits")
         return fraction_text(value)
