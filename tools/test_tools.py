@@ -376,10 +376,10 @@ class Checker(unittest.TestCase):
         """Whether a file that cannot be read, and no memory, end with the statuses of the program, and a closed output with the answer's."""
         with tempfile.TemporaryDirectory() as room:
             paths = [os.path.join(room, name) for name in ("case", "proof", "many")]
-            for path, text in zip(paths, (SEQUENCE, KEEP_PROOF, KEEP_PROOF + 10**6 * "#\n")):
+            for path, text in zip(paths, (SEQUENCE, KEEP_PROOF, KEEP_PROOF + 2 * 10**6 * "#\n")):
                 with open(path, "w", encoding="utf-8") as file:
                     file.write(text)
-            for shell, words, wanted in [("", [paths[0], "/proc/self/mem"], (6, "read fault\n")), ("ulimit -v 100000; ", [paths[0], paths[2]], (8, "no memory\n")),
+            for shell, words, wanted in [("", [paths[0], "/proc/self/mem"], (6, "read fault\n")), ("ulimit -v 300000; ", [paths[0], paths[2]], (8, "no memory\n")),
                                          ("exec >&-; ", paths[:2], (0, ""))]:
                 script = [sys.executable, os.path.join(TOOLS, "check_evidence.py"), *words]
                 done = subprocess.run(["sh", "-c", shell + 'exec "$@"', "sh", *script], capture_output=True, text=True)
