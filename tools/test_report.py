@@ -459,7 +459,7 @@ cat "$0.$command"
         """Whether a page that cannot be printed is an error with one line."""
         with tempfile.TemporaryDirectory() as room:
             paths = [os.path.join(room, name) for name in ("case", "program")]
-            for path, text in zip(paths, (CASE + 5000 * "# a comment\n", "#!/bin/sh\ncat >/dev/null; echo 'malformed: kind'; exit 3\n")):
+            for path, text in zip(paths, (CASE + 20000 * "# a comment\n", "#!/bin/sh\ncat >/dev/null; echo 'malformed: kind'; exit 3\n")):
                 with open(path, "w", encoding="utf-8") as file:
                     file.write(text)
             os.chmod(paths[1], 0o755)
