@@ -707,6 +707,10 @@ class Install(Room):
         if IS_ROOT:
             self.is_refused(self.run_script("uninstall", self.prefix, user=NOBODY), "can't be written")
             self.assertEqual(snapshot(self.prefix), before)
+            for folder in ("bin", "share/welungad"):
+                os.chown(os.path.join(self.prefix, folder), NOBODY, NOBODY)
+            self.is_refused(self.run_script("uninstall", self.prefix, user=NOBODY), "a prefix/include can't be written")
+            self.assertEqual(snapshot(self.prefix), before)
         for name in ("a", "__pycache__/a"):
             self.write(f"../outside/{name}", "another's")
         for script in (self.install, self.uninstall):
