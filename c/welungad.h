@@ -5,13 +5,14 @@
  * file, device or global variable.
  *
  * What the caller owes. Nothing checks it, and no proof holds without it:
- * - No pointer is NULL, but those to nothing: each may be NULL if its length is 0.
  * - The pointers to uint64_t and to size_t are aligned as these types are.
  * - The inputs (the pointers to const) stay as they are during the call. They may overlap each other.
  * - The outputs (the other pointers) overlap neither each other nor the inputs.
  * - malloc, realloc and free are of one allocator, and align a block to each power of two up to 16 that divides its size.
  * - No call is made from a signal handler, or in the forked child of a process with threads.
  * - The thread has 512 KiB of stack left.
+ *
+ * Pointers. Each may be NULL if its length is 0. A call with another NULL, also for needed, is answered with WELUNGAD_LENGTHS.
  *
  * Threads. Calls may run at the same time in different threads, each with an out and a needed of its own.
  *
@@ -48,7 +49,8 @@ enum {
   WELUNGAD_ROOM = 7,       /* The text does not fit into out. *needed is the length of the whole text. */
   WELUNGAD_NO_MEMORY = 8,  /* Out of memory. The text is "no memory\n". */
   WELUNGAD_WORDS = 10,     /* The words are not UTF-8, or the last one has no byte 0 at its end. *needed is 0; out stays. */
-  WELUNGAD_LENGTHS = 11    /* The lengths of a call on numbers don't fit each other. Nothing is written. */
+  WELUNGAD_LENGTHS = 11    /* The lengths of a call on numbers don't fit each other, or a pointer is NULL that may not be. Nothing is
+                              written. */
 };
 
 /* Runs the program's command in memory, and returns its status. Statuses 2 to 5 come with one line as the text: the refusal.
