@@ -50,8 +50,8 @@ enum {
   WELUNGAD_ROOM = 7,       /* The text does not fit into out. *needed is the length of the whole text. */
   WELUNGAD_NO_MEMORY = 8,  /* Out of memory. The text is "no memory\n". */
   WELUNGAD_WORDS = 10,     /* The words are not UTF-8, or the last one has no byte 0 at its end. *needed is 0; out stays. */
-  WELUNGAD_LENGTHS = 11    /* The lengths of a call on numbers don't fit each other, or a pointer is NULL that may not be. Nothing is
-                              written. */
+  WELUNGAD_LENGTHS = 11    /* The lengths of a call on numbers don't fit each other, or a pointer is NULL that may not be. Nothing
+                              is written. */
 };
 
 /* Runs the program's command in memory, and returns its status. Statuses 2 to 5 come with one line as the text: the refusal.
