@@ -154,6 +154,20 @@ static void no_pointers(void) {
   MUST(welungad_run((const uint8_t *)"test", 4, NULL, 0, NULL, 0, NULL, 0, &needed) == WELUNGAD_WORDS && needed == 0);
 }
 
+/* A NULL of another length than 0, or for needed, is refused, and nothing is written. */
+static void missing_pointers(void) {
+  const uint8_t *words = (const uint8_t *)"test", *kase = (const uint8_t *)HOLM;
+  size_t len = strlen(HOLM), needed = 77;
+  uint8_t out[512], none = 0;
+  memset(out, 9, sizeof out);
+  MUST(welungad_run(NULL, 5, kase, len, &none, 0, out, sizeof out, &needed) == WELUNGAD_LENGTHS);
+  MUST(welungad_run(words, 5, NULL, len, &none, 0, out, sizeof out, &needed) == WELUNGAD_LENGTHS);
+  MUST(welungad_run(words, 5, kase, len, NULL, 1, out, sizeof out, &needed) == WELUNGAD_LENGTHS);
+  MUST(welungad_run(words, 5, kase, len, &none, 0, NULL, 1, &needed) == WELUNGAD_LENGTHS);
+  MUST(welungad_run(words, 5, kase, len, &none, 0, out, sizeof out, NULL) == WELUNGAD_LENGTHS);
+  MUST(needed == 77 && out[0] == 9 && memcmp(out, out + 1, sizeof out - 1) == 0);
+}
+
 static void *in_thread(void *unused) {
   size_t bad = 0;
   int k;
@@ -182,6 +196,7 @@ int main(void) {
   MUST(welungad_interface() == WELUNGAD_INTERFACE);
   MUST(strcmp(welungad_version(), RELEASE) == 0);
   no_pointers();
+  missing_pointers();
   each_room();
   each_list_of_words();
   each_refusal();

@@ -256,6 +256,20 @@ static void no_pointers(void) {
   MUST(marks[0] == 9 && marks[2] == 9 && status == 9);
 }
 
+/* A NULL of another length than 0 is refused, and nothing is written. */
+static void missing_pointers(void) {
+  const uint8_t *kase = (const uint8_t *)HOLM;
+  uint64_t words[4] = {7, 7, 7, 7}, p[3] = {0, 0, 0};
+  uint8_t marks[3] = {9, 9, 9}, status = 9;
+  MUST(welungad_read(NULL, 1, words, 4) == WELUNGAD_LENGTHS && words[0] == 7 && words[3] == 7);
+  MUST(welungad_read(p, 1, NULL, 4) == WELUNGAD_LENGTHS);
+  MUST(welungad_test_rows(NULL, 1, p, 3, marks, 3, &status, 1) == WELUNGAD_LENGTHS);
+  MUST(welungad_test_rows(kase, strlen(HOLM), NULL, 3, marks, 3, &status, 1) == WELUNGAD_LENGTHS);
+  MUST(welungad_test_rows(kase, strlen(HOLM), p, 3, NULL, 3, &status, 1) == WELUNGAD_LENGTHS);
+  MUST(welungad_test_rows(kase, strlen(HOLM), p, 3, marks, 3, NULL, 1) == WELUNGAD_LENGTHS);
+  MUST(marks[0] == 9 && marks[2] == 9 && status == 9);
+}
+
 /* ---- threads */
 
 static void *in_thread(void *unused) {
@@ -369,6 +383,7 @@ int main(int count, char **words) {
   each_refusal();
   each_length_of_rows();
   no_pointers();
+  missing_pointers();
   threads_with_small_stacks();
   for (k = 0; k < calls; k++) {
     if (k % 2)

@@ -5,13 +5,15 @@
  * file, device or global variable.
  *
  * What the caller owes. Nothing checks it, and no proof holds without it:
- * - No pointer is NULL, but those to nothing: each may be NULL if its length is 0.
+ * - A pointer that isn't NULL is to as many elements as its length says.
  * - The pointers to uint64_t and to size_t are aligned as these types are.
  * - The inputs (the pointers to const) stay as they are during the call. They may overlap each other.
  * - The outputs (the other pointers) overlap neither each other nor the inputs.
  * - malloc, realloc and free are of one allocator, and align a block to each power of two up to 16 that divides its size.
  * - No call is made from a signal handler, or in the forked child of a process with threads.
  * - The thread has 512 KiB of stack left.
+ *
+ * Pointers. Each may be NULL if its length is 0. A call with another NULL, also for needed, is answered with WELUNGAD_LENGTHS.
  *
  * Threads. Calls may run at the same time in different threads, each with an out and a needed of its own.
  *
@@ -44,11 +46,12 @@ enum {
   WELUNGAD_USAGE = 2,      /* The words are not accepted. */
   WELUNGAD_MALFORMED = 3,  /* An input is malformed, or its p-values are not those that the command needs. */
   WELUNGAD_LIMIT = 4,      /* An input is past a limit. */
-  WELUNGAD_TOO_WIDE = 5,   /* A number of the case or of the run does not fit into 128 bits. */
+  WELUNGAD_TOO_WIDE = 5,   /* A number of the case or of the run is too wide: a numerator or denominator of 2^127, or epsilon^33. */
   WELUNGAD_ROOM = 7,       /* The text does not fit into out. *needed is the length of the whole text. */
   WELUNGAD_NO_MEMORY = 8,  /* Out of memory. The text is "no memory\n". */
   WELUNGAD_WORDS = 10,     /* The words are not UTF-8, or the last one has no byte 0 at its end. *needed is 0; out stays. */
-  WELUNGAD_LENGTHS = 11    /* The lengths of a call on numbers don't fit each other. Nothing is written. */
+  WELUNGAD_LENGTHS = 11    /* The lengths of a call on numbers don't fit each other, or a pointer is NULL that may not be. Nothing
+                              is written. */
 };
 
 /* Runs the program's command in memory, and returns its status. Statuses 2 to 5 come with one line as the text: the refusal.
@@ -80,7 +83,7 @@ uint8_t welungad_run(const uint8_t *words, size_t words_len, const uint8_t *kase
  * Returns WELUNGAD_DONE with all of out written, or WELUNGAD_LENGTHS with nothing written. It allocates nothing. */
 uint8_t welungad_read(const uint64_t *bits, size_t bits_len, uint64_t *out, size_t out_len);
 
-/* Decides the case of a text with each of many rows of p-values in place of its own, as the command "test" would decide it.
+/* Decides the case of a text with each of many rows of p-values in place of its own, as the closed test decides it.
  *
  * kase      The text of a case, with or without p-values, which are not used. A case with stages is malformed here.
  * p         The bits of the p-values, row by row, each row in the order of the hypotheses. They are read as welungad_read reads
@@ -90,13 +93,13 @@ uint8_t welungad_read(const uint64_t *bits, size_t bits_len, uint64_t *out, size
  * statuses  A status for each row, so p_len is statuses_len times the number of hypotheses. It becomes
  *           - WELUNGAD_DONE: the row is decided;
  *           - WELUNGAD_MALFORMED: a p-value of the row has no reading;
- *           - WELUNGAD_TOO_WIDE: a number of the run of the row does not fit into 128 bits.
+ *           - WELUNGAD_TOO_WIDE: a number of the run of the row is too wide.
  *           With the last two no hypothesis of the row is decided, and all of its marks are 0.
  *
  * Returns WELUNGAD_DONE, and then each mark and each status of a row is written. With another status nothing is written:
  * - WELUNGAD_MALFORMED, WELUNGAD_LIMIT or WELUNGAD_TOO_WIDE: the case is refused, whatever the p-values are. If its text is,
  *   welungad_run with the word "canon" answers with the line that says why. Else it has stages. Or the lengths fit, and a number of
- *   the opening, before any rejection, does not fit into 128 bits;
+ *   the opening, before any rejection, is too wide;
  * - WELUNGAD_LENGTHS: the lengths don't fit the number of hypotheses;
  * - WELUNGAD_NO_MEMORY: out of memory. */
 uint8_t welungad_test_rows(const uint8_t *kase, size_t kase_len, const uint64_t *p, size_t p_len, uint8_t *rejected,

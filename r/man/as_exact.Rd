@@ -9,10 +9,10 @@ as_exact(x, total = NULL)
 }
 \arguments{
   \item{x}{doubles, integers, texts, fractions of gmp, or whole numbers of bit64: a vector, a matrix or a data frame.}
-  \item{total}{what the numbers have to sum to, or each row of a matrix; \code{NULL} if no sum is asked for.}
+  \item{total}{what the numbers have to sum to, or each row of a matrix; \code{NULL} if no sum is required.}
 }
 \details{
-A text is taken as it stands. A double from 0 to 1 is read by the first of these rules that applies:
+A text is taken as it is written. A double from 0 to 1 is read by the first of these rules that applies:
 \enumerate{
   \item the fraction with the least denominator up to 10,000 for which R computes \code{n / d == x};
   \item the decimal with the fewest places, up to 30, that is read back as \code{x}, and of several the nearest to it;
@@ -40,8 +40,8 @@ up to 1,000, or 8 to 17 digits and denominators up to 10,000. R drops zeros at t
 An object of class \code{welungad_exact} with the parts \code{given}, \code{read} (the text that is handed to the program) and
 \code{rule}. It keeps names, and the rows and columns of a matrix. \code{[}, \code{[[}, \code{c}, \code{rep}, \code{names},
 \code{unname} and \code{is.na} work as for other vectors. So do assignments such as \code{x["H1"] <- 1 / 3}, by which the new number is
-read as any other; its number of elements has to be 1, or that of the places. \code{as.character} and \code{format} give the texts, \code{summary} how many numbers were read by each rule, and
-\code{as.data.frame} a table.
+read as any other; its number of elements has to be 1, or that of the places. \code{as.character} and \code{format} give the texts,
+\code{summary} gives how many numbers were read by each rule, and \code{as.data.frame} a table.
 }
 \seealso{
 \code{\link{graph_create}}, which takes such numbers.

@@ -4,7 +4,7 @@
 \alias{bound_of}
 \title{Bounds of true discoveries}
 \description{
-For each set of hypotheses (at most 16 in the graph), a lower bound on the number of false hypotheses in it: its size minus the size of its largest subset that the closed test does not reject. \code{graph_bounds} uses weighted Bonferroni tests, \code{graph_simes} weighted Simes tests.
+For each set of hypotheses (at most 16 in the graph), a lower bound on the number of false hypotheses in it: its size minus the size of its largest subset that the closed test does not reject. \code{graph_bounds} uses weighted Bonferroni tests, \code{graph_simes} weighted Simes tests. With confidence 1 - alpha no bound of any set is too great, for \code{graph_simes} if Simes' test is valid.
 }
 \usage{
 graph_bounds(graph, p, alpha = 0.025)

@@ -2,7 +2,7 @@
 \alias{graph_report}
 \title{A page about a decision}
 \description{
-Writes a decision as one page of HTML, for people who read it rather than compute it.
+Writes a decision as one page of HTML for readers.
 }
 \usage{
 graph_report(x, file, p = NULL, alpha = 0.025, title = NULL)
@@ -12,22 +12,25 @@ graph_report(x, file, p = NULL, alpha = 0.025, title = NULL)
   \item{file}{where the page is written. The file has the whole page, or stays as it was.}
   \item{p}{the p-values if \code{x} is a graph, as for \code{\link{graph_test}}.}
   \item{alpha}{the level if \code{x} is a graph.}
-  \item{title}{what stands above the page; by default the first line of the printed result.}
+  \item{title}{the title of the page; by default the first line of the printed result.}
 }
 \details{
 The page has the decision on each hypothesis with its levels and adjusted p-value, the graph before the first rejection and after
 each one, all intersections (if there are at most 6 hypotheses), bounds on the number of false hypotheses, the case, and how to repeat and to
-check the decision. The hypotheses have their labels; where the program has another name for one, it is in parentheses. The
+check the decision. The hypotheses have their labels; if the program has another name for one, it is in parentheses. The
 page has no scripts and needs no other file.
 
-What the page says of the decision is what the program prints. Its reports are read strictly, and the report of the decision has to
-be the one that \code{x} has: else there is no page.
+The page says of the decision only what the program prints. Its reports are read strictly, and if the report of the decision is not
+the one that \code{x} has, there is no page.
 
-The page is made by the script \code{report.py} of Welungad's installation or checkout, so this call needs more than the others: the
-program, as \code{\link{welungad_run}} says, also if the package has the C library; the script, in the folder
-\code{share/welungad/tools} of the installation in whose \code{bin} the program is, or in the folder \code{tools} of the checkout; and
-\code{python3}, 3.9 or later, which the environment variable \code{WELUNGAD_PYTHON} names, or which is on the path. If one of them is
-missing, the call stops with a line that names it.
+The page is made by the script \code{report.py} of Welungad's installation or checkout, so this call needs more than the others:
+\itemize{
+  \item the program, as \code{\link{welungad_run}} says, also if the package has the C library;
+  \item the script, in the folder \code{share/welungad/tools} of the installation in whose \code{bin} the program is, or in the folder
+    \code{tools} of the checkout;
+  \item \code{python3}, 3.9 or later, which the environment variable \code{WELUNGAD_PYTHON} names, or which is on the path.
+}
+If one of them is missing, the call stops with a line that names it.
 }
 \value{
 The path of the file, invisibly.
