@@ -262,13 +262,18 @@ class Program(Room):
         self.assertEqual(self.run_script("welungad")[:2], (0, "2 0\n"))
 
     def test_no_stamp(self):
-        """Whether a stamp that can't be written ends with a status that no command has."""
+        """Whether a stamp that can't be written or removed ends with a status that no command has, and so does a script that lacks a file."""
         self.commit()
-        os.makedirs(os.path.join(self.top, "crates", "welungad", "out", "stamp.new"))
-        for words in (["check", "x"], []):
-            status, said, errors = self.run_script("welungad", *words)
-            self.assertEqual((status, said), (125, ""), errors)
-            self.assertTrue(errors.endswith("/crates/welungad/out/stamp can't be written\n"), errors)
+        for name, said in (("stamp.new", "/crates/welungad/out/stamp can't be written\n"), ("stamp", "")):
+            path = os.path.join(self.top, "crates", "welungad", "out", name)
+            os.makedirs(path)
+            for words in (["check", "x"], []):
+                status, printed, errors = self.run_script("welungad", *words)
+                self.assertEqual((status, printed), (125, ""), errors)
+                self.assertTrue(errors.endswith(said), errors)
+            os.rmdir(path)
+        os.rename(os.path.join(self.top, "tools", "stamps.sh"), self.path("stamps.sh"))
+        self.assertEqual(self.run_script("welungad")[:2], (125, ""))
 
     def test_link(self):
         """Whether a symbolic link to the script runs it, from any folder and under CDPATH."""
