@@ -104,18 +104,21 @@ numeral_value <- function(text) {
   text <- sub("^\\+", "", trimws(text))
   if (!is_numeral(text)) return(gmp::NA_bigq_)
   if (grepl("/", text, fixed = TRUE)) {
-    parts <- gmp::as.bigz(strsplit(text, "/", fixed = TRUE)[[1]])
+    parts <- gmp::as.bigz(without_zeros(strsplit(text, "/", fixed = TRUE)[[1]]))
     return(if (parts[2] == 0) gmp::NA_bigq_ else gmp::as.bigq(parts[1], parts[2]))
   }
   parts <- strsplit(tolower(text), "e", fixed = TRUE)[[1]]
   digits <- strsplit(parts[1], ".", fixed = TRUE)[[1]]
-  whole <- gmp::as.bigz(sub("^(-?)0*([0-9])", "\\1\\2", paste(digits, collapse = "")))
+  whole <- gmp::as.bigz(without_zeros(paste(digits, collapse = "")))
   if (whole == 0) return(gmp::as.bigq(0))
   exponent <- if (length(parts) == 2) as.numeric(parts[2]) else 0
   if (abs(exponent) > 10000) return(gmp::NA_bigq_)
   shift <- exponent - if (length(digits) == 2) nchar(digits[2]) else 0
   if (shift >= 0) gmp::as.bigq(whole * ten_to(shift)) else gmp::as.bigq(whole, ten_to(-shift))
 }
+
+# Whole numbers without zeros at their beginning, since gmp reads digits after a zero as octal ones.
+without_zeros <- function(digits) sub("^(-?)0+([0-9])", "\\1\\2", digits)
 
 ten_to <- function(n) gmp::as.bigz(10)^n
 
