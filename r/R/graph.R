@@ -62,7 +62,7 @@ edge_texts <- function(x, what) {
     place <- element_texts(x)[wrong[1]]
     stop_at(what, "the edge at ", place, " is ", quoted(texts[wrong[1]]), ", which is neither a number nor an expression")
   }
-  texts[grepl("^[-+]?0*[.]?0*(/[0-9]*[1-9][0-9]*)?\\z", texts, perl = TRUE) & grepl("0", texts, fixed = TRUE)] <- "0"
+  texts[grepl("^[-+]?(0+[.]?0*|[.]0+)(/0*[1-9][0-9]*)?\\z", texts, perl = TRUE)] <- "0"
   texts
 }
 

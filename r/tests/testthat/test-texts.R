@@ -60,6 +60,18 @@ test_that("each element is one numeral", {
   })
 })
 
+test_that("an edge is 0 if it is written as 0, and a text without a numerator is refused", {
+  each_way(function(way) {
+    of <- function(edge) graph_create(c(1, 0), matrix(c("0", "0", edge, "0"), 2))
+    for (zero in c("0", "-0", "+0", "00", "0.", "0.00", ".0", "-.0", "0/7", "-00/0010")) {
+      expect_equal(unname(of(zero)$components[[1]]$edges[1, 2]), "0", info = zero)
+    }
+    for (text in c("/10", "-/10", "+/20", "./10", "/0010", "0/0", "0/")) {
+      expect_equal(refusal_of(of(text))$where, paste0("transitions: the edge from H1 to H2 is \"", text, "\""))
+    }
+  })
+})
+
 test_that("no option of R changes what is handed in or printed", {
   each_way(function(way) {
     plain <- list(graph = capture.output(print(holm(3))), canon = graph_canon(holm(3), c(1e-5, 0.1 + 0.2, 1)))
