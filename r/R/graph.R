@@ -85,6 +85,7 @@ graph_entangle <- function(..., shares) {
   }
   first <- graphs[[1]]
   for (graph in graphs) {
+    check_graph(graph)
     if (!identical(graph[c("names", "labels")], first[c("names", "labels")])) {
       stop_at("...", "the graphs have the same hypotheses in the same order")
     }
@@ -195,6 +196,16 @@ say_rounded <- function(text) {
 
 check_graph <- function(graph) {
   if (!inherits(graph, "welungad_graph")) stop_at("graph", "a graph is needed that graph_create or graph_entangle made")
+  check_parts(graph, c("names", "labels", "components", "read", "written"), "a graph")
+  for (component in graph$components) check_parts(component, c("share", "weights", "edges"), "a component of a graph")
+  if (length(graph$labels) != length(graph$names)) stop_at("graph", "one label is needed for each hypothesis")
+  check_labels(graph$names, graph$labels)
+}
+
+# Stops at a part that was added by hand, such as the `transitions` of other packages, since no call reads it.
+check_parts <- function(x, known, what) {
+  other <- setdiff(names(x), known)
+  if (length(other)) stop_at("graph", what, " has the parts ", listed(known), ", and nothing reads a part ", quoted(other[1]))
 }
 
 has_epsilon <- function(graph) any(grepl(epsilon, unlist(graph$components), fixed = TRUE))

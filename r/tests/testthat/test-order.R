@@ -201,6 +201,40 @@ test_that("a graph that was changed is decided as it is", {
   })
 })
 
+test_that("what no call would read of a graph that was changed is an error", {
+  each_way(function(way) {
+    fault <- "^graph: a graph has the parts .*, and nothing reads a part \"%s\"$"
+    for (part in c("hypotheses", "transitions", "weights", "Components")) {
+      graph <- pair()
+      graph[[part]] <- c(H1 = 1, H2 = 0)
+      expect_error(graph_test(graph, c(0.02, 0.9)), sprintf(fault, part))
+    }
+    # R takes the part by its beginning, and makes a new one
+    graph <- pair()
+    graph$component[[1]]$weights["H1"] <- "1"
+    for (call in list(graph_canon, function(x) graph_stages(x, list(0.01, 0.01)), function(x) graph_entangle(x, shares = 1))) {
+      expect_error(call(graph), sprintf(fault, "component"))
+    }
+    graph <- pair()
+    graph$components[[1]]$weight <- c("1", "0")
+    expect_error(graph_canon(graph), "^graph: a component of a graph has the parts .*, and nothing reads a part \"weight\"$")
+    for (edges in list(matrix("0", 1, 1), matrix("0", 3, 3), "0")) {
+      graph <- pair()
+      graph$components[[1]]$edges <- edges
+      expect_error(graph_canon(graph), "^graph: its edges need a row and a column for each hypothesis$")
+    }
+    graph <- pair()
+    for (labels in list(c("A", "A"), c("A", NA), c("H2", "A"))) {
+      graph$labels <- labels
+      expect_error(graph_test(graph, c(0.02, 0.9)), "^labels: ")
+    }
+    graph$labels <- "A"
+    expect_error(graph_test(graph, c(0.02, 0.9)), "^graph: one label is needed for each hypothesis$")
+    graph$labels <- c("first", "second")
+    expect_equal(graph_test(graph, c(second = 0.9, first = 0.001))$rejected, c(first = TRUE, second = FALSE))
+  })
+})
+
 test_that("names and labels are texts", {
   each_way(function(way) {
     edges <- rbind(0:1, 1:0)
