@@ -46,6 +46,23 @@ test_that("the looks of another case are not read", {
   })
 })
 
+test_that("the looks of hypotheses with other labels are not read", {
+  with_folder(function(store) {
+    greek <- c("\u03b1", "\u03b2")
+    graph_study(staged(greek), store, look(greek[1], 1, 0.002))
+    fault <- "store: .*[.]db was made for the hypotheses "
+    for (labels in list(rev(greek), c("\u03b1", "\u03b3"))) {
+      expect_equal(staged(labels)$case, staged(greek)$case)
+      expect_error(graph_study(staged(labels), store, look(labels[1], 1, 0.001)), fault)
+    }
+    expect_equal(graph_study(staged(greek), store)$rejected, stats::setNames(c(TRUE, FALSE), greek))
+    # names that the user gives are in the case
+    expect_equal(graph_study(readLines(paste0(store, ".case")), store)$rejected, c(H1 = TRUE, H2 = FALSE))
+    expect_equal(list.files(dirname(store), "labels$"), paste0(basename(store), ".labels"))
+    unlink(paste0(store, ".labels"))
+  })
+})
+
 test_that("a study needs a file, and a staged case without looks", {
   with_folder(function(store) {
     for (wrong in list(":memory:", "file:x", "", NA, 1, c("a", "b"))) expect_error(graph_study(staged(), wrong), "store: the name of a file is needed")
