@@ -29,7 +29,7 @@ exact_of <- function(x, what) {
     read <- list(given = texts, read = texts, rule = ifelse(is.na(texts), "missing", "fraction of gmp"))
   } else if (inherits(x, "integer64")) {
     read <- read_integer64(x)
-  } else if (is.numeric(x) || (is.logical(x) && all(is.na(x)))) {
+  } else if ((is.numeric(x) && !inherits(x, "units")) || (is.logical(x) && all(is.na(x)))) {
     read <- read_doubles(as.double(x), what, names(x))
   } else {
     stop_at(what, "numbers are doubles, integers, texts or fractions of gmp, and not of class ", class(x)[1])

@@ -105,6 +105,9 @@ test_that("numbers without a value are refused", {
   }
   expect_error(as_exact(factor("a")), "doubles, integers, texts")
   expect_error(as_exact(TRUE), "doubles, integers, texts")
+  # half a percent, as the package units has it
+  percent <- structure(0.5, units = structure(list(numerator = "%", denominator = character()), class = "symbolic_units"), class = "units")
+  expect_error(as_exact(percent), "^x: numbers are doubles, .* and not of class units$")
 })
 
 test_that("the level that is not given is the one that is read", {
