@@ -28,6 +28,7 @@ rows_of_p <- function(P, graph) {
   }
   n <- length(graph$names)
   if (ncol(P) != n) stop_at("P", whole_text(ncol(P)), " columns given for ", whole_text(n), " hypotheses")
+  if (!is.data.frame(P)) check_elements(P, "P")
   P <- if (is_of_doubles(P)) matrix_of_doubles(P) else matrix_of_texts(P)
   given <- colnames(P)
   if (is.null(given) && any(rownames(P) %in% unlist(hypothesis_keys(graph)))) {
@@ -46,16 +47,15 @@ is_plain <- function(x) (is.double(x) || is.integer(x)) && !is.object(x)
 
 matrix_of_doubles <- function(P) {
   if (is.data.frame(P)) {
-    rows <- attr(P, "row.names")
     values <- vapply(P, as.double, numeric(nrow(P)))
-    P <- matrix(values, nrow(P), length(P), dimnames = list(if (is.character(rows)) rows, names(P)))
+    P <- matrix(values, nrow(P), length(P), dimnames = list(own_row_names(P), names(P)))
   }
   storage.mode(P) <- "double"
   P
 }
 
 matrix_of_texts <- function(P) {
-  read <- if (is.data.frame(P)) exact_frame(P, "P") else exact_of(P, "P")
+  read <- if (is.data.frame(P)) exact_frame(P, "P", own_row_names(P)) else exact_of(P, "P")
   report_rounded(read, paste("row", rep(whole_text(seq_len(read$dim[1])), read$dim[2])))
   matrix(read$read, read$dim[1], read$dim[2], dimnames = read$dimnames)
 }

@@ -118,6 +118,7 @@ read_looks <- function(graph, looks) {
   at <- positions_of(graph, as.character(looks$hypothesis), "looks")
   stage <- whole_numbers(looks$stage, "looks: stage")
   read <- column_of(looks, match("p", names(looks)), "looks")
+  check_aligned(looks, match("p", names(looks)), as.character(looks$hypothesis), "looks")
   missing <- which(is.na(read$read))
   if (length(missing)) stop_at("looks", "the p-value of row ", whole_text(missing[1]), " is missing")
   report_rounded(read, graph$labels[at])

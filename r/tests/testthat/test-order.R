@@ -60,6 +60,49 @@ test_that("p-values with names are put in order, whatever their class", {
   })
 })
 
+test_that("the names of the elements of a row or a column, and of the numbers of a data frame, are kept", {
+  each_way(function(way) {
+    p <- c(H2 = 0.001, H1 = 0.9)
+    row <- matrix(p, 1)
+    column <- matrix(p, 2)
+    exact <- as_exact(column)
+    names(row) <- names(column) <- names(exact) <- names(p)
+    # as of a tibble, which leaves the names to the column
+    frame <- data.frame(number = 1:2)
+    frame$p <- p
+    for (form in list(row, column, exact, frame["p"])) expect_equal(graph_test(pair(), form)$exact$p, c("9/10", "1/1000"), info = class(form)[1])
+    single <- "name rows and columns, since names of single elements say nothing of them"
+    expect_error(graph_test_many(pair(), row), paste0("^P: ", single))
+    edges <- matrix(c(0, 1, 1, 0), 2)
+    names(edges) <- c("H2", "H1")
+    expect_error(graph_create(c(H1 = 1, H2 = 0), edges), paste0("^transitions: ", single))
+    edges <- data.frame(number = 1:2)
+    edges$H1 <- c(H2 = "1/3", H1 = "0")
+    edges$H2 <- c(H2 = 0, H1 = 1)
+    made <- graph_create(c(H1 = 1, H2 = 0), edges[c("H1", "H2")])
+    expect_equal(made$components[[1]]$edges, graph_create(c(H1 = 1, H2 = 0), rbind(c("0", "1"), c("1/3", "0")))$components[[1]]$edges)
+    edges$H2 <- rev(edges$H2)
+    expect_error(graph_create(c(H1 = 1, H2 = 0), edges[c("H1", "H2")]), "^transitions: the columns have different names for their rows$")
+  })
+})
+
+test_that("numbers beside the names of other hypotheses are an error", {
+  each_way(function(way) {
+    fault <- ": the numbers have the names H2, H1, and the column hypothesis has H1, H2$"
+    p <- c(H2 = 0.001, H1 = 0.9)
+    rows <- data.frame(hypothesis = c("H1", "H2"), p = p)
+    column <- data.frame(hypothesis = c("H1", "H2"))
+    column$p <- p
+    for (wrong in list(rows, column)) {
+      expect_error(graph_test(pair(), wrong), paste0("^p", fault))
+      wrong$stage <- 1
+      expect_error(graph_stages(pair(), list(0.01, 0.01), wrong), paste0("^looks", fault))
+      wrong$hypothesis <- c("H2", "H1")
+      expect_equal(graph_stages(pair(), list(0.01, 0.01), wrong)$looks$p, c("1/1000", "9/10"))
+    }
+  })
+})
+
 test_that("weights and edges with names are put in order", {
   each_way(function(way) {
     edges <- matrix(c(0, 0, 0, "1/3", 0, 0, "2/3", 1, 0), 3, dimnames = list(c("A", "B", "C"), c("A", "B", "C")))
