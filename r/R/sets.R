@@ -77,10 +77,18 @@ as.data.frame.welungad_closure <- function(x, ..., exact = FALSE) {
 
 # Some of the sets.
 `[.welungad_closure` <- function(x, i, ...) {
-  x$sets <- x$sets[i]
-  x$weights <- x$weights[i, , drop = FALSE]
-  for (part in c("local", "closed", "bound")) x[[part]] <- x[[part]][i]
+  at <- places_of_sets(x, i)
+  x$sets <- x$sets[at]
+  x$weights <- x$weights[at, , drop = FALSE]
+  for (part in c("local", "closed", "bound")) x[[part]] <- x[[part]][at]
   x
+}
+
+# The places of some of the sets of a result, all of which are there.
+places_of_sets <- function(x, i) {
+  at <- seq_along(x$sets)[i]
+  if (anyNA(at)) stop_at("i", "sets are taken by their places from 1 to ", whole_text(length(x$sets)))
+  at
 }
 
 format.welungad_closure <- function(x, ...) {
@@ -150,8 +158,9 @@ as.data.frame.welungad_bounds <- function(x, ...) {
 
 # Some of the sets.
 `[.welungad_bounds` <- function(x, i, ...) {
-  x$sets <- x$sets[i]
-  x$bound <- x$bound[i]
+  at <- places_of_sets(x, i)
+  x$sets <- x$sets[at]
+  x$bound <- x$bound[at]
   x
 }
 

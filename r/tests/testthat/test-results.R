@@ -297,6 +297,11 @@ test_that("parts of results are taken, and summaries are made", {
     bounds <- graph_bounds(diabetes(), p)
     expect_equal(sum(summary(bounds)), 15)
     expect_output(print(bounds[1:3], most = 2), "and 1 more set, which as.data.frame has")
+    for (wrong in list("H1", "H1, H2", 16, c(16, 1), NA, c(TRUE, NA))) {
+      for (x in list(bounds, closed)) expect_error(x[wrong], "^i: sets are taken by their places from 1 to 15$")
+    }
+    expect_equal(bound_of(bounds[], 1:4), bound_of(bounds, 1:4))
+    expect_equal(closed[rep(c(FALSE, TRUE), c(14, 1))]$bound, closed$bound[15])
     expect_equal(summary(diabetes())$edges_from, c(2, 2, 1, 1))
     expect_equal(format(entangled()), "Graph of 4 hypotheses with 2 components")
     n <- share_of(way, 16, 8)
