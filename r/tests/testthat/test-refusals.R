@@ -26,6 +26,11 @@ test_that("refusals name the argument and the place", {
     expect_equal(where(graph_test(graph, c(-0.5, 0.1))), "p: the p-value of low dose is -1/2")
     expect_equal(where(graph_test(graph, c("0.1", "x"))), "p: the p-value of B is \"x\"")
     expect_equal(where(graph_test(graph, 0.1)), "p: the number of the p-values is not that of the hypotheses")
+    expect_equal(where(graph_test(graph, numeric())), "p: it has no number")
+    for (call in list(graph_test, graph_bounds, graph_evidence)) expect_equal(where(call(graph, NULL)), "p: no p-values are given")
+    for (long in c("1e-39", "0.5e40", paste0("0.", strrep("3", 39)), paste0("1/", strrep("7", 39)), "12345678901234567890e19")) {
+      expect_equal(where(graph_test(graph, c("0.00000000000000000000000000000000000001", long))), paste0("p: the p-value of B is \"", long, "\""))
+    }
     expect_equal(where(graph_test(graph, c(0.1, 0.2), 2)), "alpha: the level is 2")
     expect_equal(where(graph_test(graph, c(0.1, 0.2), "x")), "alpha: the level is \"x\"")
     expect_equal(where(graph_create(c(NA, 0.5), matrix(0, 2, 2))), "hypotheses: the weight of H1 is \"NA\"")
@@ -37,6 +42,9 @@ test_that("refusals name the argument and the place", {
     expect_equal(where(graph_create(rep(0, 65), matrix(0, 65, 65))), "hypotheses: there are too many")
     one <- graph_create(c(1, 0), matrix(0, 2, 2))
     expect_equal(where(graph_entangle(one, one, shares = c(-0.5, 0.5))), "shares: the share of graph 1")
+    numbered <- graph_create(c(1, 0), matrix(0, 2, 2), hyp_names = c("1", "2"), labels = c("low", "high"))
+    expect_equal(where(graph_entangle(numbered, numbered, shares = c(-0.5, 0.5))), "shares: the share of graph 1")
+    expect_equal(where(graph_stages(numbered, list(0.001, -0.001))), "levels: the level of high at stage 1 is out of order")
     expect_equal(where(graph_stages(graph, list(0.03, 0.02))), "levels: the levels of low dose sum to more than its own")
     expect_equal(where(graph_stages(graph, list(0.001, -0.001))), "levels: the level of B at stage 1 is out of order")
     expect_equal(where(graph_bounds(holm(17), rep(0.1, 17))), "graph: it has too many hypotheses")
