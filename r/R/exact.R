@@ -100,7 +100,7 @@ check_single <- function(x) if (length(x) != 1) stop("[[ takes one number, and n
 rep.welungad_exact <- function(x, ...) x[rep(seq_along(x), ...)]
 
 c.welungad_exact <- function(...) {
-  parts <- lapply(list(...), exact_of, what = "c")
+  parts <- lapply(Filter(Negate(is.null), list(...)), exact_of, what = "c")
   # names as R makes them, also of the arguments
   places <- unlist(lapply(parts, function(it) stats::setNames(seq_along(it$read), it$names)))
   new_exact(joined(parts, "given"), joined(parts, "read"), joined(parts, "rule"), names(places))

@@ -27,6 +27,8 @@ test_that("numbers that are put together have the names that R gives", {
     expect_identical(names(do.call(c, lapply(parts, as_exact))), names(do.call(c, parts)))
   }
   expect_identical(names(c(one)), NULL)
+  expect_identical(c(one, NULL)$read, "9/10")
+  expect_identical(names(c(a = one, b = NULL, c = one)), c("a", "c"))
   expect_identical(c(a = one, b = "1/3")$read, c("9/10", "1/3"))
   each_way(function(way) {
     expect_equal(graph_test(pair(), c(H2 = as_exact(0.001), H1 = one))$rejected, c(H1 = FALSE, H2 = TRUE))
