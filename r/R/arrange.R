@@ -57,7 +57,7 @@ vector_of_frame <- function(x, what) {
   if ("hypothesis" %in% names(x) && length(x) == 2) {
     values <- setdiff(seq_along(x), match("hypothesis", names(x)))
     read <- column_of(x, values, what)
-    names(read) <- as.character(x$hypothesis)
+    names(read) <- texts_in(x$hypothesis, paste0(what, ": hypothesis"))
     check_aligned(x, values, read$names, what)
     return(read)
   }

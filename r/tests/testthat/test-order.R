@@ -178,6 +178,27 @@ test_that("the stages of looks are whole numbers", {
   })
 })
 
+test_that("a list of factors has their texts", {
+  each_way(function(way) {
+    frame <- data.frame(p = c(0.001, 0.9))
+    frame$hypothesis <- list(factor("2", c("2", "1")), factor("1", c("2", "1")))
+    expect_equal(graph_test(pair(c("1", "2")), frame)$rejected, c("1" = FALSE, "2" = TRUE))
+    frame$stage <- 1
+    expect_equal(graph_stages(pair(c("1", "2")), list(0.01, 0.01), frame)$looks$hypothesis, c("2", "1"))
+  })
+})
+
+test_that("a number that is the name of a hypothesis at another position is an error", {
+  each_way(function(way) {
+    graph <- pair(c("2", "1"))
+    expect_error(graph_update(graph, 1), "^delete: 1 is the name of another hypothesis: give names as texts$")
+    expect_error(bound_of(graph_bounds(graph, c(0.001, 0.9)), 2), "^hypotheses: 2 is the name of another hypothesis")
+    expect_equal(graph_update(graph, "1")$deleted, "1")
+    expect_equal(graph_update(pair(c("1", "2")), 2)$deleted, "2")
+    expect_error(graph_update(graph_create(c(1, 0), matrix(0, 2, 2), hyp_names = c("2", "1"), labels = c("low", "high")), 1), "^delete: 1 is ")
+  })
+})
+
 test_that("logical vectors with names are put in order", {
   each_way(function(way) {
     expect_equal(graph_update(pair(), c(H2 = TRUE, H1 = FALSE))$deleted, "H2")
@@ -285,7 +306,8 @@ test_that("names and labels are texts", {
       expect_error(graph_create(c(1 / 2, 1 / 2), edges, hyp_names = wrong), "^hyp_names: texts are needed, and not an object of class ")
       expect_error(graph_create(c(1 / 2, 1 / 2), edges, labels = wrong), "^labels: texts are needed, and not an object of class ")
     }
-    for (right in list(c("A", "B"), factor(c("A", "B")), list("A", "B"), c(A = "A", B = "B"))) {
+    factors <- list(factor("A", c("B", "A")), factor("B", c("B", "A")))
+    for (right in list(c("A", "B"), factor(c("A", "B")), list("A", "B"), factors, c(A = "A", B = "B"))) {
       expect_equal(graph_create(c(1 / 2, 1 / 2), edges, hyp_names = right)$labels, c("A", "B"))
     }
   })
