@@ -3,7 +3,7 @@
 default_alpha <- "1/40"
 
 # What is handed in: a text, and the graph whose names and labels it has. Further parts are what a staged case spends (`levels`)
-# and its looks, and the version of a document of evidence.
+# and its looks, the version of a document of evidence, and the argument that gave a text (`source`) and that of its `level`.
 handed <- function(text, graph = NULL, ...) list(text = text, graph = graph, ...)
 
 # The lines of a component; an edge that is 0 has no line.

@@ -139,7 +139,7 @@ graph_read <- function(file, form = c("text", "csv", "json"), alpha = NULL) {
   if (form != "csv" && !is.null(alpha)) stop_at("alpha", "a case of the form ", form, " has a level of its own")
   bytes <- readBin(file, "raw", file.size(file))
   words <- c("canon", if (form != "text") c("--form", form), if (!is.null(alpha)) c("--alpha", level_of(alpha)))
-  case <- ask(words, handed(bytes))
+  case <- ask(words, handed(bytes, source = paste("file:", quoted(file)), level = alpha))
   graph <- new_graph(case$names, case$names, case$components)
   list(graph = graph, alpha = case$alpha, p = case$p, stages = case$stages)
 }

@@ -153,7 +153,7 @@ argument_table <- rbind(
 
 # The argument and the place that a line is about, and what was given there; "" if it is about none.
 where_of <- function(line, case) {
-  if (is.null(case$graph)) return("")
+  if (is.null(case$graph)) return(source_of(line, case))
   if (grepl("^(malformed|limit): line [0-9]+: ", line)) return(where_in_text(line, case))
   rest <- sub("^(malformed: case|limit: case: part|limit: case): ?(part )?", "", line)
   for (i in seq_len(if (identical(rest, line)) 0 else nrow(place_table))) {
@@ -162,6 +162,12 @@ where_of <- function(line, case) {
   }
   at <- which(vapply(argument_table[, 1], grepl, NA, x = line))
   if (length(at)) paste0(argument_table[at[1], 2], ": ", argument_table[at[1], 3]) else ""
+}
+
+# The argument that gave a case as a text. A sheet has its level beside it.
+source_of <- function(line, case) {
+  if (!is.null(case[["level"]]) && grepl("^usage: |alpha$", line)) return("alpha: the level")
+  if (is.null(case$source)) "" else case$source
 }
 
 # A sentence with the words of a line.

@@ -3,7 +3,7 @@
 
 graph_study <- function(case, store, looks = NULL) {
   text <- study_text(case)
-  canon <- program_answer("canon", handed(text$text, text$graph))
+  canon <- program_answer("canon", handed(text$text, text$graph, source = "case: the text"))
   graph <- if (is.null(text$graph)) graph_of_case(canon) else text$graph
   if (length(canon$stages) == 0) stop_at("case", "a study has a staged case")
   if (any(startsWith(canon$stages, "arrive "))) stop_at("case", "a study begins without looks: they are given to `looks`")

@@ -161,6 +161,20 @@ test_that("what is none of the choices of an argument is an error that names it"
   })
 })
 
+test_that("the refusal of a file names it", {
+  file <- tempfile()
+  on.exit(unlink(file))
+  each_way(function(way) {
+    writeLines(sub("^weights .*", "weights x 1/2", graph_canon(pair(), c(0.01, 0.02))), file)
+    refusal <- refusal_of(graph_read(file))
+    expect_equal(refusal[c("line", "where")], list(line = "malformed: line 4: number", where = paste0("file: \"", file, "\"")))
+    expect_match(conditionMessage(refusal), "(malformed: line 4: number)\n  Write 0.025", fixed = TRUE)
+    if ("program" %in% welungad_ways()) expect_equal(refusal_of(graph_study("alpha 2", tempfile()))$where, "case: the text")
+    cat(welungad_run(c("canon", "--to", "csv"), graph_canon(pair(), c(0.01, 0.02)))$text, file = file)
+    for (level in c("x", "2", "1/12347")) expect_equal(refusal_of(graph_read(file, "csv", level))$where, "alpha: the level")
+  })
+})
+
 test_that("a level is given for a sheet alone", {
   file <- tempfile()
   on.exit(unlink(file))
