@@ -91,6 +91,15 @@ places_of_sets <- function(x, i) {
   at
 }
 
+# The first and the last sets, since R takes the number of a result's parts for that of its sets.
+head.welungad_closure <- function(x, n = 6L, ...) x[utils::head(seq_along(x$sets), n)]
+
+tail.welungad_closure <- function(x, n = 6L, ...) x[utils::tail(seq_along(x$sets), n)]
+
+head.welungad_bounds <- head.welungad_closure
+
+tail.welungad_bounds <- tail.welungad_closure
+
 format.welungad_closure <- function(x, ...) {
   paste0("Closed test of ", count_of(length(x$sets), "intersection"), " at level ", level_text(x$alpha))
 }

@@ -76,6 +76,11 @@ graph_rejections <- function(x, exact = FALSE) {
   table[at, ]
 }
 
+# The rows of the first and the last hypotheses.
+head.welungad_test <- function(x, n = 6L, ...) utils::head(x[x$graph$labels], n)
+
+tail.welungad_test <- function(x, n = 6L, ...) utils::tail(x[x$graph$labels], n)
+
 format.welungad_test <- function(x, ...) {
   paste0("Graphical test of ", count_of_hypotheses(length(x$graph$names)), " at level ", level_text(x$alpha),
     if (x$priority != "first") paste(", priority", x$priority))

@@ -70,7 +70,7 @@ rejected intersections of each size; for bounds, a table that counts the sets by
 rejections.
 
 \code{[} returns, for a decision, the rows of some hypotheses in a data frame; for a closed test and for bounds, an object of the same
-class with some of the sets.
+class with some of the sets. \code{head} and \code{tail} return the first and the last of them.
 }
 \seealso{
 \code{\link{plot.welungad_graph}} for pictures.
