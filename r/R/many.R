@@ -12,7 +12,7 @@ graph_test_many <- function(graph, P, alpha = 0.025) {
   progress <- progress_over(nrow(P))
   on.exit(progress$close())
   for (rows in blocks_over(nrow(P))) {
-    block <- decide(graph, level, P[rows, , drop = FALSE])
+    block <- decide(graph, level, P[rows, , drop = FALSE], rows)
     done <- block$statuses == 0L
     out[rows[done], ] <- block$rejected[done, ]
     progress$at(max(rows))
@@ -84,7 +84,7 @@ report_many_rounded <- function(P) {
 
 # Decides a block of rows of doubles by one call. Returns a logical matrix of the rejected, and a status for each row: 0, or 5 if it is
 # too wide.
-decided_doubles <- function(graph, level, P) {
+decided_doubles <- function(graph, level, P, rows = seq_len(nrow(P))) {
   text <- case_text(graph, level)
   found <- .Call(C_welungad_rows, charToRaw(text), P)
   if (found$status == 0L && all(found$statuses %in% c(0L, 5L)) && !anyNA(found$rejected)) return(found)
@@ -94,8 +94,8 @@ decided_doubles <- function(graph, level, P) {
   stop("the C library gives no whole answer to many trials: it ends with ", found$status, call. = FALSE)
 }
 
-# Decides a block of rows one by one, as decided_doubles.
-decided_texts <- function(graph, level, P) {
+# Decides a block of rows one by one, as decided_doubles. `rows` are their numbers.
+decided_texts <- function(graph, level, P, rows = seq_len(nrow(P))) {
   if (is.double(P)) P <- matrix(read_doubles(P, "P")$read, nrow(P))
   parts <- graph_text(graph)
   p <- do.call(paste, lapply(seq_len(ncol(P)), function(j) P[, j]))
@@ -107,10 +107,18 @@ decided_texts <- function(graph, level, P) {
     if (answer$status == 5L && is_refusal(5L, whole_lines(answer$text))) {
       out$statuses[i] <- 5L
     } else {
-      out$rejected[i, ] <- taken(answer, "test", case)$rejected
+      out$rejected[i, ] <- rejected_in(answer, case, rows[i])
     }
   }
   out
+}
+
+# What the answer to a row rejects. The refusal of a p-value names the row.
+rejected_in <- function(answer, case, row) {
+  tryCatch(taken(answer, "test", case), welungad_refusal = function(refusal) {
+    if (!startsWith(refusal$where, "p: ")) stop(refusal)
+    refuse(refusal$status, refusal$line, refusal$amount, paste0("P: row ", whole_text(row), sub("^p", "", refusal$where)))
+  })$rejected
 }
 
 blocks_over <- function(rows) split(seq_len(rows), (seq_len(rows) - 1L) %/% rows_of_block)

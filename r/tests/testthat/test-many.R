@@ -29,6 +29,10 @@ test_that("rows that have no decision are named", {
     turned <- matrix(0.1, 2, 2, dimnames = list(c("H1", "H2"), NULL))
     expect_error(graph_test_many(pair(), turned), "P: its rows have the names of hypotheses, and its columns have none: a row is a trial")
     expect_error(graph_test_many(pair(), matrix("0.1 0.2", 1, 2)), "P: row 1, column 1 is 0.1 0.2")
+    small <- matrix("0.1", 515, 2)
+    small[514, 2] <- "1e-39"
+    if (way == "library") expect_equal(refusal_of(graph_test_many(pair(), small))$where, "P: row 514: the p-value of H2 is \"1e-39\"")
+    expect_equal(refusal_of(graph_test_many(pair(), small[514:515, ]))$where, "P: row 1: the p-value of H2 is \"1e-39\"")
     expect_message(graph_test_many(pair(), matrix(c(1e-300, 0.5), 1)), "P: 1 p-value was rounded up to a multiple of 10^-30: row 1", fixed = TRUE)
     small <- cbind(rep(c(0.5, 1e-31), 8), 1e-40)
     expect_message(graph_test_many(pair(), small), "P: 24 p-values were rounded up to a multiple of 10^-30: row 1, 2, 3, 4, 5, 6, 7, 8, 9, 10, and 6 more", fixed = TRUE)
