@@ -58,8 +58,8 @@ hold_case <- function(lines, store) {
   }
 }
 
-# Stops if the file of looks was made for other labels: names that are made of labels can be those of others. Labels that are the program's
-# names are in the case.
+# Stops if the file of looks was made for other labels: names that are made of labels can be those of others. Labels that are the
+# program's names are in the case.
 hold_labels <- function(graph, store) {
   if (identical(graph$labels, graph$names)) return(invisible())
   place <- paste0(store, ".labels")
