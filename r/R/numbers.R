@@ -43,11 +43,11 @@ check_encoding <- function(x, what) {
   if (length(wrong)) stop_at(what, place_text(wrong[1], names(x)), " is ", quoted(x[wrong[1]]), ", whose bytes are not a text in its encoding")
 }
 
-# The names of the elements of an argument; gmp keeps more of them than there are elements.
+# The names of the elements of an argument; NULL if none has one. gmp keeps more of them than there are elements.
 names_in <- function(x) {
   own <- names(x)
   if (length(own) > length(x)) own <- own[seq_along(x)]
-  if (inherits(x, c("bigq", "bigz")) && all(is.na(own))) NULL else own
+  if (all(is.na(own) | !nzchar(own))) NULL else own
 }
 
 # The numerators `n` and denominators `d` of the fractions with d up to 10,000 at the doubles, or at most `room` beside them.

@@ -53,6 +53,9 @@ test_that("p-values with names are put in order, whatever their class", {
     names(fractions) <- c(NA, "H1")
     expect_error(graph_test(pair(), fractions), "p: the first has no name, and others have one", fixed = TRUE)
     expect_equal(graph_test(pair(), rev(gmp::as.bigq(c(1, 9), c(1000, 10))))$exact$p, c("9/10", "1/1000"))
+    for (none in list(c("", ""), c(NA, ""), NA_character_)) {
+      expect_equal(graph_test(pair(), structure(c(0.001, 0.9), names = rep_len(none, 2)))$exact$p, c("1/1000", "9/10"))
+    }
     expect_error(graph_test(pair(), c(H1 = 0.1)), "p: nothing is given for \"H2\"", fixed = TRUE)
     expect_error(graph_test(pair(), matrix(0.1, 2, 2)), "p: a vector is needed, and not a table of 2 by 2")
     expect_error(graph_test(pair(), data.frame(a = 1:2, b = 1:2)), "p: a data frame has one row")
