@@ -5,6 +5,8 @@ graph_report <- function(x, file, p = NULL, alpha = 0.025, title = NULL) {
   x <- decided(x, p, alpha, missing(alpha))
   file <- one_text(file, "file")
   title <- enc2utf8(if (is.null(title)) format(x) else one_text(title, "title"))
+  # its bytes are handed over as they are, also in a locale that is not UTF-8
+  Encoding(title) <- "unknown"
   room <- tempfile("welungad-")
   dir.create(room)
   on.exit(unlink(room, recursive = TRUE))
