@@ -66,6 +66,16 @@ test_that("the graphs of a decision hold its weights", {
   })
 })
 
+test_that("a removal for which the program prints no weights is not called compared", {
+  each_way(function(way) {
+    graph <- graph_catalogue("fixed-sequence", 17)
+    update <- graph_update(graph, "H2")
+    expect_false(update$compared)
+    expect_output(print(update), "Not all weights could be compared with the proved call: it prints none for these removals.", fixed = TRUE)
+    expect_true(graph_update(graph, c("H1", "H2"))$compared)
+  })
+})
+
 test_that("a weight that is not the proved one stops", {
   each_way(function(way) {
     graph <- holm(3)
