@@ -106,9 +106,11 @@ checked_layout <- function(layout, graph) {
   n <- length(graph$names)
   if (is.null(layout)) return(default_layout(n))
   layout <- as.matrix(layout)
-  if (!is.numeric(layout) || !identical(dim(layout), c(n, 2L)) || anyNA(layout)) {
+  if (!is.numeric(layout) || !identical(dim(layout), c(n, 2L)) || !all(is.finite(layout))) {
     stop_at("layout", "a matrix of numbers is needed with a row of two coordinates for each hypothesis")
   }
+  same <- which(duplicated(unname(layout)))
+  if (length(same)) stop_at("layout", place_text(same[1], rownames(layout)), " has the place of another hypothesis")
   if (!is.null(rownames(layout))) layout <- layout[places_among(rownames(layout), hypothesis_keys(graph), "layout"), , drop = FALSE]
   unname(layout)
 }

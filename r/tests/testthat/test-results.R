@@ -190,6 +190,8 @@ test_that("pictures are drawn", {
     plot(graph_stages(diabetes(), rep(list(0.001), 4)))
     expect_error(plot(graph_bounds(diabetes(), c(0.018, 0.01, 0.105, 0.006))), "x: bounds have no picture: plot(x$graph) draws", fixed = TRUE)
     expect_error(plot(holm(3), layout = cbind(1:2, 1:2)), "layout: a matrix of numbers is needed")
+    expect_error(plot(holm(2), layout = cbind(1:2, c(1, Inf))), "layout: a matrix of numbers is needed")
+    expect_error(plot(holm(3), layout = cbind(c(1, 2, 1), 1)), "^layout: the third has the place of another hypothesis$")
     grDevices::dev.off()
     expect_true(file.size(file) > 1000)
   })
