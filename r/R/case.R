@@ -31,10 +31,13 @@ graph_text <- function(graph) {
 }
 
 # Stops if the weights or the edges of a graph, which are written in their order, have other names than its hypotheses, or have them in
-# another order, or if edges are not those of its hypotheses.
+# another order, if they are not texts, or if edges are not those of its hypotheses.
 check_order <- function(graph) {
   n <- length(graph$names)
   for (component in graph$components) {
+    if (!all(vapply(component, is.character, NA))) {
+      stop_at("graph", "its shares, weights and edges are texts, as as.character(as_exact(x)) gives them for numbers")
+    }
     if (!identical(dim(component$edges), c(n, n))) stop_at("graph", "its edges need a row and a column for each hypothesis")
     for (given in c(list(names(component$weights)), dimnames(component$edges))) {
       if (!is.null(given) && !identical(given, graph$labels) && !identical(given, graph$names)) {

@@ -290,6 +290,13 @@ test_that("what no call would read of a graph that was changed is an error", {
       graph$components[[1]]$edges <- edges
       expect_error(graph_canon(graph), "^graph: its edges need a row and a column for each hypothesis$")
     }
+    for (weights in list(c(0.1 + 0.2, 0.5), as_exact(c(1 / 3, 1 / 3)), gmp::as.bigq(1, 3:4), list("1", "0"), NULL)) {
+      graph <- pair()
+      graph$components[[1]]["weights"] <- list(weights)
+      expect_error(graph_canon(graph), "^graph: its shares, weights and edges are texts, as as.character[(]as_exact[(]x[)][)] gives them")
+    }
+    graph$components[[1]]$weights <- as.character(as_exact(c(H1 = 0.1 + 0.2, H2 = 1 / 3)))
+    expect_match(graph_canon(graph)[3], "weights 7500000000000001/25000000000000000 1/3", fixed = TRUE)
     graph <- pair()
     for (labels in list(c("A", "A"), c("A", NA), c("H2", "A"))) {
       graph$labels <- labels
