@@ -203,9 +203,9 @@ check_graph <- function(graph) {
 }
 
 # Stops at a part that was added by hand, such as the `transitions` of other packages, since no call reads it.
-check_parts <- function(x, known, what) {
+check_parts <- function(x, known, what, argument = "graph") {
   other <- setdiff(names(x), known)
-  if (length(other)) stop_at("graph", what, " has the parts ", listed(known), ", and nothing reads a part ", quoted(other[1]))
+  if (length(other)) stop_at(argument, what, " has the parts ", listed(known), ", and nothing reads a part ", quoted(other[1]))
 }
 
 has_epsilon <- function(graph) any(grepl(epsilon, unlist(graph$components), fixed = TRUE))

@@ -17,11 +17,24 @@ graph_study <- function(case, store, looks = NULL) {
 
 # The text of a case, and its graph if it is known.
 study_text <- function(case) {
-  if (inherits(case, "welungad_stages")) return(list(text = case$case, graph = case$graph))
+  if (inherits(case, "welungad_stages")) {
+    check_unchanged(case)
+    return(list(text = case$case, graph = case$graph))
+  }
   if (!is.character(case) && !is.raw(case)) stop_at("case", "a result of graph_stages, or the text of a case is needed")
   bytes <- bytes_of(case, "case")
   if (any(bytes == 0)) stop_at("case", "it has a byte 0")
   list(text = rawToChar(bytes), graph = NULL)
+}
+
+# Stops if a staged test was changed by hand, since its text alone is read.
+check_unchanged <- function(x) {
+  check_parts(x, c("graph", "alpha", "plan", "looks", "rejections", "rejected", "case", "report"), "a staged test", "case")
+  alpha <- words_after(strsplit(x$case, "\n", fixed = TRUE)[[1]], "alpha")
+  own <- graph_text(x$graph)
+  is_same <- isTRUE(as.logical(fraction(alpha) == fraction(as.character(x$alpha)))) &&
+    startsWith(x$case, paste0("alpha ", alpha, "\n", own$head, own$body))
+  if (!is_same) stop_at("case", "its level or its graph was changed: call graph_stages with the new one")
 }
 
 graph_of_case <- function(case) list(names = case$names, labels = case$names)
