@@ -23,16 +23,21 @@ component_lines <- function(component, names, one) {
 # The text of the names and the graph of a case. The graph keeps it, with the names and components that it was made of: a graph
 # that was changed since then is written anew.
 graph_text <- function(graph) {
-  kept <- graph$written
-  if (!is.null(kept) && identical(kept$names, graph$names) && identical(kept$components, graph$components)) return(kept)
+  if (is_as_written(graph)) return(graph$written)
   check_order(graph)
-  if (!is.null(kept)) warn_written(unlist(lapply(graph$components, function(it) c(it$weights, it$edges))), "graph")
+  if (!is.null(graph$written)) warn_written(unlist(lapply(graph$components, function(it) c(it$weights, it$edges))), "graph")
   write_graph(graph)
+}
+
+is_as_written <- function(graph) {
+  kept <- graph$written
+  !is.null(kept) && identical(kept$names, graph$names) && identical(kept$components, graph$components)
 }
 
 # Stops if the weights or the edges of a graph, which are written in their order, have other names than its hypotheses, or have them in
 # another order, if they are not texts, or if edges are not those of its hypotheses.
 check_order <- function(graph) {
+  if (is_as_written(graph)) return(invisible())
   n <- length(graph$names)
   for (component in graph$components) {
     if (!all(vapply(component, is.character, NA))) {

@@ -86,6 +86,8 @@ graph_entangle <- function(..., shares) {
   first <- graphs[[1]]
   for (graph in graphs) {
     check_graph(graph)
+    # which warns of what was changed by hand
+    graph_text(graph)
     if (!identical(graph[c("names", "labels")], first[c("names", "labels")])) {
       stop_at("...", "the graphs have the same hypotheses in the same order")
     }
@@ -213,6 +215,7 @@ has_epsilon <- function(graph) any(grepl(epsilon, unlist(graph$components), fixe
 # ---- printing
 
 as.data.frame.welungad_graph <- function(x, ..., exact = FALSE) {
+  check_order(x)
   parts <- lapply(seq_along(x$components), function(c) {
     component <- x$components[[c]]
     edges <- component$edges
@@ -236,6 +239,7 @@ format.welungad_graph <- function(x, ...) {
 
 # A row for each hypothesis: its weight over all graphs, and how many edges leave it and lead to it.
 summary.welungad_graph <- function(object, ...) {
+  check_order(object)
   edges <- lapply(object$components, function(it) it$edges != "0")
   any_edge <- Reduce(`|`, edges)
   data.frame(hypothesis = object$labels, weight = double_of(total_weights(object)), edges_from = unname(rowSums(any_edge)),
@@ -243,6 +247,7 @@ summary.welungad_graph <- function(object, ...) {
 }
 
 print.welungad_graph <- function(x, ...) {
+  check_order(x)
   cat(format(x), "\n", sep = "")
   for (component in x$components) {
     if (length(x$components) > 1) cat("Share ", component$share, "\n", sep = "")

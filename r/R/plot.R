@@ -55,6 +55,7 @@ titles_without <- function(deleted) {
 # Draws a graph; `all` has the hypotheses that have a place, and those that the graph lacks are drawn as removed. `main` has titles, of
 # which the first that fits is taken.
 draw_graph <- function(graph, all, layout, main, cex, marked = NULL) {
+  check_order(graph)
   nodes <- nodes_of(graph, all, layout, marked)
   old <- graphics::par(mar = c(0.5, 0.5, if (is.null(main)) 0.5 else 2, 0.5))
   on.exit(graphics::par(old))

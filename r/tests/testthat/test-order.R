@@ -253,6 +253,7 @@ test_that("a graph that was changed is decided as it is", {
     turned <- graph
     turned$components[[1]]$weights <- c(H2 = "1", H1 = "0")
     expect_error(graph_test(turned, c(0.02, 0.9)), "^graph: its weights and edges have the names H2, H1, and its hypotheses H1, H2$")
+    for (show in list(print, summary, as.data.frame, plot)) expect_error(show(turned), "^graph: its weights and edges have the names H2, H1")
     turned <- graph
     turned$components[[1]]$edges <- turned$components[[1]]$edges[, 2:1]
     expect_error(graph_canon(turned), "graph: its weights and edges have the names H2, H1", fixed = TRUE)
@@ -262,6 +263,7 @@ test_that("a graph that was changed is decided as it is", {
     # a double that is assigned is a text of 15 digits
     graph$components[[1]]$weights["H1"] <- 1 / 3
     expect_warning(graph_canon(graph), "graph: \"0.333333333333333\" is what R writes for 1/3", fixed = TRUE, class = "welungad_written")
+    expect_warning(graph_entangle(graph, shares = 1), "graph: \"0.333333333333333\" is what R writes for 1/3", fixed = TRUE)
     graph$components[[1]]$weights <- unname(graph$components[[1]]$weights)
     graph$components[[1]]$weights[1] <- "1/3"
     expect_match(graph_canon(graph)[3], "weights 1/3 0")
@@ -306,6 +308,10 @@ test_that("what no call would read of a graph that was changed is an error", {
     expect_error(graph_test(graph, c(0.02, 0.9)), "^graph: one label is needed for each hypothesis$")
     graph$labels <- c("first", "second")
     expect_equal(graph_test(graph, c(second = 0.9, first = 0.001))$rejected, c(first = TRUE, second = FALSE))
+    relabelled <- pair(c("low dose", "high dose"))
+    relabelled$labels <- c("low", "high")
+    expect_output(print(relabelled), "low +1/2")
+    expect_equal(graph_test(relabelled, c(high = 0.9, low = 0.001))$rejected, c(low = TRUE, high = FALSE))
   })
 })
 
