@@ -63,6 +63,9 @@ test_that("p-values with names are put in order, whatever their class", {
   })
 })
 
+# A data frame of two rows whose columns keep their names, as those of a tibble do.
+tibble_of_two <- function(...) structure(list(...), row.names = .set_row_names(2L), class = c("tbl_df", "tbl", "data.frame"))
+
 test_that("the names of the elements of a row or a column, and of the numbers of a data frame, are kept", {
   each_way(function(way) {
     p <- c(H2 = 0.001, H1 = 0.9)
@@ -70,22 +73,18 @@ test_that("the names of the elements of a row or a column, and of the numbers of
     column <- matrix(p, 2)
     exact <- as_exact(column)
     names(row) <- names(column) <- names(exact) <- names(p)
-    # as of a tibble, which leaves the names to the column
-    frame <- data.frame(number = 1:2)
-    frame$p <- p
-    for (form in list(row, column, exact, frame["p"])) expect_equal(graph_test(pair(), form)$exact$p, c("9/10", "1/1000"), info = class(form)[1])
+    for (form in list(row, column, exact, tibble_of_two(p = p), tibble_of_two(p = as_exact(p)))) {
+      expect_equal(graph_test(pair(), form)$exact$p, c("9/10", "1/1000"), info = class(form)[1])
+    }
     single <- "name rows and columns, since names of single elements say nothing of them"
     expect_error(graph_test_many(pair(), row), paste0("^P: ", single))
     edges <- matrix(c(0, 1, 1, 0), 2)
     names(edges) <- c("H2", "H1")
     expect_error(graph_create(c(H1 = 1, H2 = 0), edges), paste0("^transitions: ", single))
-    edges <- data.frame(number = 1:2)
-    edges$H1 <- c(H2 = "1/3", H1 = "0")
-    edges$H2 <- c(H2 = 0, H1 = 1)
-    made <- graph_create(c(H1 = 1, H2 = 0), edges[c("H1", "H2")])
-    expect_equal(made$components[[1]]$edges, graph_create(c(H1 = 1, H2 = 0), rbind(c("0", "1"), c("1/3", "0")))$components[[1]]$edges)
-    edges$H2 <- rev(edges$H2)
-    expect_error(graph_create(c(H1 = 1, H2 = 0), edges[c("H1", "H2")]), "^transitions: the columns have different names for their rows$")
+    made <- graph_create(c(H1 = 1, H2 = 0), tibble_of_two(H1 = c(H2 = "1/3", H1 = "0"), H2 = c(H2 = 0, H1 = 1)))
+    expect_equal(made$components, graph_create(c(H1 = 1, H2 = 0), rbind(c("0", "1"), c("1/3", "0")))$components)
+    wrong <- tibble_of_two(H1 = c(H2 = "1/3", H1 = "0"), H2 = c(H1 = 1, H2 = 0))
+    expect_error(graph_create(c(H1 = 1, H2 = 0), wrong), "^transitions: the columns have different names for their rows$")
   })
 })
 
@@ -93,10 +92,7 @@ test_that("numbers beside the names of other hypotheses are an error", {
   each_way(function(way) {
     fault <- ": the numbers have the names H2, H1, and the column hypothesis has H1, H2$"
     p <- c(H2 = 0.001, H1 = 0.9)
-    rows <- data.frame(hypothesis = c("H1", "H2"), p = p)
-    column <- data.frame(hypothesis = c("H1", "H2"))
-    column$p <- p
-    for (wrong in list(rows, column)) {
+    for (wrong in list(data.frame(hypothesis = c("H1", "H2"), p = p), tibble_of_two(hypothesis = c("H1", "H2"), p = p))) {
       expect_error(graph_test(pair(), wrong), paste0("^p", fault))
       wrong$stage <- 1
       expect_error(graph_stages(pair(), list(0.01, 0.01), wrong), paste0("^looks", fault))
