@@ -66,7 +66,7 @@ check_p <- function(P) {
   wrong <- which(is.na(values) | values < 0 | values > 1)
   if (length(wrong) == 0) return(invisible())
   at <- wrong[order((wrong - 1) %% nrow(P))][1]
-  given <- if (is.double(P) && !is.na(P[at])) decimal_text(P[at], 15) else as.character(P[at])
+  given <- if (is.double(P) && !is.na(P[at])) double_text(P[at]) else as.character(P[at])
   stop_at("P", "row ", whole_text((at - 1) %% nrow(P) + 1), ", column ", whole_text((at - 1) %/% nrow(P) + 1), " is ",
     if (is.na(given)) "NA" else given, ", which is not a p-value")
 }

@@ -24,6 +24,7 @@ test_that("rows that have no decision are named", {
     expect_error(graph_test_many(pair(), P[-2, ]), "P: row 2, column 1 is NA", fixed = TRUE)
     expect_error(graph_test_many(pair(), rbind(0:1, c(0.5, NaN))), "P: row 2, column 2 is NaN, which is not a p-value", fixed = TRUE)
     expect_error(graph_test_many(pair(), rbind(0:1, c(-1e-300, 1))), "P: row 2, column 1 is -1e-300, which is not a p-value", fixed = TRUE)
+    expect_error(graph_test_many(pair(), rbind(0:1, c(1 + 2^-52, 1))), "P: row 2, column 1 is 1.0000000000000002, which is not a p-value", fixed = TRUE)
     expect_error(graph_test_many(pair(), c(0.1, 0.2)), "P: a matrix is needed")
     expect_error(graph_test_many(pair(), matrix(0.1, 2, 3)), "P: 3 columns given for 2 hypotheses")
     turned <- matrix(0.1, 2, 2, dimnames = list(c("H1", "H2"), NULL))

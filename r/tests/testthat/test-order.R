@@ -166,6 +166,7 @@ test_that("the stages of looks are whole numbers", {
     for (stage in list(c(2, 3), c(2L, 3L), c("2", "3"))) expect_equal(graph_stages(pair(), levels, looks(stage))$looks$stage, 2:3)
     expect_error(graph_stages(pair(), levels, looks(factor(c("2", "3")))), "looks: stage: the first is \"2\" of a factor, which is not a whole number", fixed = TRUE)
     expect_error(graph_stages(pair(), levels, looks(c(1, 1.9))), "looks: stage: the second is 1.9, which is not a whole number", fixed = TRUE)
+    expect_error(graph_stages(pair(), levels, looks(c(1, 2 + 2^-51))), "looks: stage: the second is 2.0000000000000004, which is not a whole number", fixed = TRUE)
     expect_error(graph_stages(pair(), levels, looks(c(1, NA))), "looks: stage: the second is NA")
     expect_error(graph_stages(pair(), levels, data.frame(hypothesis = 1:2, stage = 1, p = 0.1)), "looks: the column hypothesis has numbers")
     expect_error(graph_stages(pair(), levels, data.frame(hypothesis = "H3", stage = 1, p = 0.1)), "looks: no hypothesis has the name \"H3\"", fixed = TRUE)
