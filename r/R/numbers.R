@@ -29,13 +29,16 @@ exact_of <- function(x, what) {
     read <- list(given = texts, read = texts, rule = ifelse(is.na(texts), "missing", "fraction of gmp"))
   } else if (inherits(x, "integer64")) {
     read <- read_integer64(x)
-  } else if ((is.numeric(x) && !inherits(x, "units")) || (is.logical(x) && all(is.na(x)))) {
+  } else if (has_doubles(x) || (is.logical(x) && all(is.na(x)))) {
     read <- read_doubles(as.double(x), what, names(x))
   } else {
     stop_at(what, "numbers are doubles, integers, texts or fractions of gmp, and not of class ", class(x)[1])
   }
   new_exact(read$given, read$read, read$rule, names_in(x), dim(x), if (!is.null(dim(x))) dimnames(x))
 }
+
+# Whether numbers are doubles or integers of R, and no dates, factors, numbers with units, or what a package holds otherwise.
+has_doubles <- function(x) is.numeric(x) && (is.double(x) || is.integer(x)) && !inherits(x, "units")
 
 # Stops at a text whose bytes are none in its encoding, as one of a file in Latin-1 that was read as UTF-8.
 check_encoding <- function(x, what) {

@@ -108,6 +108,9 @@ test_that("numbers without a value are refused", {
   # half a percent, as the package units has it
   percent <- structure(0.5, units = structure(list(numerator = "%", denominator = character()), class = "symbolic_units"), class = "units")
   expect_error(as_exact(percent), "^x: numbers are doubles, .* and not of class units$")
+  # numbers that are held otherwise, and can be none of R's doubles
+  registerS3method("is.numeric", "held_otherwise", function(x) TRUE)
+  expect_error(as_exact(structure(list(0.5), class = "held_otherwise")), "^x: numbers are doubles, .* and not of class held_otherwise$")
 })
 
 test_that("the level that is not given is the one that is read", {
