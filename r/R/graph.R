@@ -200,14 +200,15 @@ check_graph <- function(graph) {
   if (!inherits(graph, "welungad_graph")) stop_at("graph", "a graph is needed that graph_create or graph_entangle made")
   check_parts(graph, c("names", "labels", "components", "read", "written"), "a graph")
   for (component in graph$components) check_parts(component, c("share", "weights", "edges"), "a component of a graph")
+  if (identical(graph$labels, graph$names)) return(invisible())
   if (length(graph$labels) != length(graph$names)) stop_at("graph", "one label is needed for each hypothesis")
   check_labels(graph$names, graph$labels)
 }
 
 # Stops at a part that was added by hand, such as the `transitions` of other packages, since no call reads it.
 check_parts <- function(x, known, what, argument = "graph") {
-  other <- setdiff(names(x), known)
-  if (length(other)) stop_at(argument, what, " has the parts ", listed(known), ", and nothing reads a part ", quoted(other[1]))
+  other <- !names(x) %in% known
+  if (any(other)) stop_at(argument, what, " has the parts ", listed(known), ", and nothing reads a part ", quoted(names(x)[other][1]))
 }
 
 has_epsilon <- function(graph) any(grepl(epsilon, unlist(graph$components), fixed = TRUE))
