@@ -30,7 +30,7 @@ exact_of <- function(x, what) {
   } else if (inherits(x, "integer64")) {
     read <- read_integer64(x)
   } else if (has_doubles(x) || (is.logical(x) && all(is.na(x)))) {
-    read <- read_doubles(as.double(x), what, names(x))
+    read <- read_doubles(as.double(x), what, names_of_places(x))
   } else {
     stop_at(what, "numbers are doubles, integers, texts or fractions of gmp, and not of class ", class(x)[1])
   }
@@ -43,8 +43,13 @@ has_doubles <- function(x) is.numeric(x) && (is.double(x) || is.integer(x)) && !
 # Stops at a text whose bytes are none in its encoding, as one of a file in Latin-1 that was read as UTF-8.
 check_encoding <- function(x, what) {
   wrong <- which(!is.na(x) & (Encoding(x) == "bytes" | !validEnc(x)))
-  if (length(wrong)) stop_at(what, place_text(wrong[1], names(x)), " is ", quoted(x[wrong[1]]), ", whose bytes are not a text in its encoding")
+  if (length(wrong)) {
+    stop_at(what, place_text(wrong[1], names_of_places(x)), " is ", quoted(x[wrong[1]]), ", whose bytes are not a text in its encoding")
+  }
 }
+
+# What the elements of an argument are called in messages: their names, or their rows and columns.
+names_of_places <- function(x) if (length(dim(x)) == 2) element_texts(list(dim = dim(x), dimnames = dimnames(x))) else names(x)
 
 # The names of the elements of an argument; NULL if none has one. gmp keeps more of them than there are elements.
 names_in <- function(x) {
