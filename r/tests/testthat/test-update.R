@@ -76,6 +76,16 @@ test_that("a removal for which the program prints no weights is not called compa
   })
 })
 
+test_that("an updated graph whose edges are quotients in epsilon is not read by the program", {
+  each_way(function(way) {
+    after <- graph_update(graph_catalogue("improved-parallel", 2, 2), "H3")$updated_graph
+    expect_equal(after$components[[1]]$edges["H4", "H1"], "(1-\\epsilon)/(2-\\epsilon)")
+    refusal <- refusal_of(graph_test(after, c(0.1, 0.2, 0.3)))
+    expect_match(refusal$line, ": divisor$")
+    expect_match(refusal$where, "^transitions: the edge from H4 to H1 is ")
+  })
+})
+
 test_that("a weight that is not the proved one stops", {
   each_way(function(way) {
     graph <- holm(3)
