@@ -70,7 +70,7 @@ as_read <- function(x) unique(data.frame(given = x$given, read = x$read, rule = 
 
 # Lets the proved call read a graph, and keeps the canonical spelling, and the text that is handed in for it.
 new_graph <- function(names, labels, components, read = NULL) {
-  given <- structure(list(names = names, labels = labels, components = components), class = "welungad_graph")
+  given <- structure(list(names = names, labels = labels, components = components, read = read), class = "welungad_graph")
   canon <- ask("canon", handed(case_text(given), given))
   graph <- list(names = names, labels = labels, components = labelled(canon$components, labels), read = read)
   graph$written <- write_graph(graph)

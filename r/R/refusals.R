@@ -249,32 +249,37 @@ amount_of <- function(line, case) {
   if (is.null(graph) || !grepl("^malformed: case: (share|weight|row|spend) sum", line)) return("")
   words <- strsplit(sub("^malformed: case: ", "", line), " ", fixed = TRUE)[[1]]
   component <- graph$components[[if ("component" %in% words) as.integer(words[length(words)]) else 1L]]
+  doubles <- doubles_in(graph)
   switch(words[1],
-    share = sum_sentence("The shares", vapply(graph$components, `[[`, "", "share"), argument = "shares"),
-    weight = sum_sentence("The weights", component$weights, argument = "hypotheses"),
+    share = sum_sentence("The shares", vapply(graph$components, `[[`, "", "share"), argument = "shares", doubles = doubles),
+    weight = sum_sentence("The weights", component$weights, argument = "hypotheses", doubles = doubles),
     row = row_sentence(match(words[4], graph$names), component, graph),
     spend = levels_sentence(words[4], case)
   )
 }
 
+# The texts of the doubles of a graph that were read as decimals.
+doubles_in <- function(graph) graph$read$read[graph$read$rule == "shortest decimal"]
+
 sentence_of <- function(parts) if (length(parts)) paste0(listed(parts, 3L), ".") else ""
 
 alpha_of <- function(case) words_after(strsplit(as_text_of(case$text), "\n", fixed = TRUE)[[1]], "alpha")
 
-# `texts` are the terms, and `argument` is what they were given for.
-sum_sentence <- function(what, texts, bound = gmp::as.bigq(1), argument = NULL) {
+# `texts` are the terms, `argument` is what they were given for, and `doubles` are those that were given as doubles.
+sum_sentence <- function(what, texts, bound = gmp::as.bigq(1), argument = NULL, doubles = character()) {
   total <- sum_of(fraction(texts))
   if (is.na(total) || total <= bound) return("")
   excess <- decimal_text(as_double(total - bound), 3)
   sentence <- sprintf("%s sum to %s, which is %s above %s.", what, exact_decimal(total), excess, exact_decimal(bound))
-  paste(c(sentence, cure_of_sum(texts, bound, argument)), collapse = "\n  ")
+  paste(c(sentence, cure_of_sum(texts, bound, argument, doubles)), collapse = "\n  ")
 }
 
-# What doubles beside fractions have to do with a sum, and how they are read as these fractions.
-cure_of_sum <- function(texts, bound, argument) {
+# What numbers beside fractions have to do with a sum, and how doubles are read as these fractions; texts stay as they are written.
+cure_of_sum <- function(texts, bound, argument, doubles) {
   sentences <- beside_sentences(texts)
   if (length(sentences) == 0) return(NULL)
   found <- beside(texts)$fraction
+  found[!texts %in% doubles] <- NA
   meant <- sum_of(fraction(ifelse(is.na(found), texts, found)))
   c(
     sentence_of(sentences),
@@ -290,7 +295,7 @@ row_sentence <- function(i, component, graph) {
   texts <- vapply(given, canonical_edge, "", USE.NAMES = FALSE)
   total <- sum_of(numbers_of(texts))
   if (is_quotients(total)) return(sprintf("%s sum to %s, which is above 1.", what, text_of(total)))
-  sum_sentence(what, given, argument = "transitions")
+  sum_sentence(what, given, argument = "transitions", doubles = doubles_in(graph))
 }
 
 levels_sentence <- function(name, case) {

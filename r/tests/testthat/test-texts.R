@@ -156,6 +156,12 @@ test_that("sums of doubles say what was read, and how to read the fractions", {
     expect_equal(unname(graph$components[[1]]$edges[2, ]), c("1/7", "0", "5/7", "1/7"))
     row <- refusal_of(graph_create(c(1, 0, 0), rbind(c(0, 0.1 + 0.2, 0.7), 0, 0)))
     expect_match(row$amount, "as_exact(transitions, total = 1)", fixed = TRUE)
+    # texts are not read as other numbers
+    written <- refusal_of(graph_create(c("0.30000000000000004", "0.7"), matrix(0, 2, 2)))
+    expect_match(written$amount, "0.30000000000000004 is one unit in the last place above 3/10", fixed = TRUE)
+    expect_false(grepl("as_exact", written$amount))
+    one <- graph_create(c(1, 0), matrix(0, 2, 2))
+    expect_match(refusal_of(graph_entangle(one, one, shares = c(0.1 + 0.2, 0.7)))$amount, "as_exact(shares, total = 1)", fixed = TRUE)
   })
   expect_error(as_exact(c(0.1, 0.2), total = 1), "x: the row reads as 3/10, and not as 1", fixed = TRUE)
   expect_error(as_exact(c(0.1, NA), total = 1), "none missing")
