@@ -834,7 +834,7 @@ class Library(Room):
         """Whether R links and loads the library that r/configure looked at, also if others of its name come before it."""
         self.builds()
         self.run_script("welungad")
-        prefix, others = self.path("a prefix"), self.path("others")
+        prefix, others = self.path("a, prefix"), self.path("others")
         self.assertEqual(self.run_script("install", prefix)[0], 0)
         os.remove(os.path.join(prefix, "lib", "libwelungad.a"))
         os.makedirs(others)
@@ -927,7 +927,7 @@ class Configure(Room):
         if os.path.isdir("/proc/self"):
             self.assertEqual(self.configure(stood=self.room, WELUNGAD_PREFIX="a prefix")[1], wanted)
         os.remove(os.path.join(prefix, "lib", "libwelungad.a"))
-        libs = f"PKG_LIBS = '{prefix}/lib/libwelungad.so' -Wl,--disable-new-dtags -Wl,-rpath,'{prefix}/lib'\n"
+        libs = f"PKG_LIBS = '{prefix}/lib/libwelungad.so' -Wl,--disable-new-dtags -Xlinker -rpath -Xlinker '{prefix}/lib'\n"
         self.assertEqual(self.configure(WELUNGAD_PREFIX=prefix)[1], f"PKG_CPPFLAGS = -DWELUNGAD_LIBRARY -I'{prefix}/include'\n{libs}")
         wanted = f"PKG_CPPFLAGS = -DWELUNGAD_LIBRARY -I'{self.top}/c'\nPKG_LIBS = '{self.top}/c/out/libwelungad.a'\n"
         self.assertEqual(self.configure(WELUNGAD_PREFIX=prefix, **places)[1], wanted)

@@ -39,36 +39,62 @@ arranged <- function(x, keys, what, count = NULL) {
 }
 
 # The numbers of a vector, whatever its class. One row or column of a matrix or of a data frame is a vector, with the names of
-# its other side; so are the columns `hypothesis` and another one of a data frame.
+# its other side, else those of its elements; so are the columns `hypothesis` and another one of a data frame.
 exact_vector <- function(x, what) {
   if (is.double(x) && is.null(attributes(x))) return(exact_of(x, what))
   if (is.data.frame(x)) return(vector_of_frame(x, what))
   x <- exact_of(x, what)
   size <- x$dim
   if (is.null(size)) return(x)
-  if (length(size) == 1) return(new_exact(x$given, x$read, x$rule, x$dimnames[[1]]))
-  if (length(size) > 2 || !any(size == 1)) stop_at(what, "a vector is needed, and not a table of ", paste(size, collapse = " by "))
-  side <- if (size[1] == 1 && (size[2] > 1 || is.null(rownames(x)))) 2L else 1L
-  new_exact(x$given, x$read, x$rule, x$dimnames[[side]])
+  if (length(size) > 2 || length(size) == 2 && !any(size == 1)) {
+    stop_at(what, "a vector is needed, and not a table of ", paste(size, collapse = " by "))
+  }
+  side <- if (length(size) == 2 && size[1] == 1 && (size[2] > 1 || is.null(rownames(x)))) 2L else 1L
+  new_exact(x$given, x$read, x$rule, if (is.null(x$dimnames[[side]])) x$names else x$dimnames[[side]])
 }
 
 vector_of_frame <- function(x, what) {
   if ("hypothesis" %in% names(x) && length(x) == 2) {
     values <- setdiff(seq_along(x), match("hypothesis", names(x)))
     read <- column_of(x, values, what)
-    names(read) <- as.character(x$hypothesis)
+    names(read) <- texts_in(x$hypothesis, paste0(what, ": hypothesis"))
+    check_aligned(x, values, read$names, what)
     return(read)
   }
   if (nrow(x) == 1 || length(x) == 1) return(exact_vector(exact_frame(x, what), what))
   stop_at(what, "a data frame has one row with a column for each hypothesis, or the columns hypothesis and another one")
 }
 
+# Stops if the numbers of a column, or their rows, have the names of the hypotheses beside them in another order: R leaves a named vector in
+# its order when it becomes a column.
+check_aligned <- function(x, j, hypotheses, what) {
+  for (own in list(names_in(x[[j]]), own_row_names(x))) {
+    if (!is.null(own) && all(own %in% hypotheses) && !identical(as.character(own), hypotheses)) {
+      stop_at(what, "the numbers have the names ", listed(own, 4L), ", and the column hypothesis has ", listed(hypotheses, 4L))
+    }
+  }
+}
+
 # The numbers of a data frame, column by column, since R turns a whole one with a column of texts into texts of 7 digits.
-exact_frame <- function(x, what) {
+exact_frame <- function(x, what, rows = row_names_of(x, what)) {
   columns <- lapply(seq_along(x), column_of, x = x, what = what)
+  new_exact(joined(columns, "given"), joined(columns, "read"), joined(columns, "rule"), NULL, dim(x), list(rows, names(x)))
+}
+
+# The names of the rows of a data frame, else those that the numbers of its columns have. A single row has none of these, since its columns
+# are what has names.
+row_names_of <- function(x, what) {
+  own <- own_row_names(x)
+  if (!is.null(own) || nrow(x) == 1) return(own)
+  inner <- unique(Filter(Negate(is.null), lapply(x, names_in)))
+  if (length(inner) > 1) stop_at(what, "the columns have different names for their rows")
+  if (length(inner)) as.character(inner[[1]])
+}
+
+# The names of the rows of a data frame; NULL if they are only counted.
+own_row_names <- function(x) {
   rows <- attr(x, "row.names")
-  new_exact(joined(columns, "given"), joined(columns, "read"), joined(columns, "rule"), NULL, dim(x),
-    list(if (is.character(rows)) rows, names(x)))
+  if (is.character(rows)) rows
 }
 
 column_of <- function(x, j, what) {
@@ -84,7 +110,13 @@ exact_square <- function(x, what, n) {
   if (!identical(as.integer(read$dim), rep(n, 2L))) {
     stop_at(what, "a square matrix is needed, with a row and a column for each of ", whole_text(n), " hypotheses")
   }
+  check_elements(read, what)
   read
+}
+
+# Stops at a matrix whose elements have names, as names(x) <- .. gives them, which say nothing of its rows and columns.
+check_elements <- function(x, what) {
+  if (!is.null(names(x))) stop_at(what, "name rows and columns, since names of single elements say nothing of them")
 }
 
 # A square matrix with rows and columns in the order of the hypotheses. If one of both sides has no names, it has the order of

@@ -38,8 +38,16 @@ welungad_run <- function(words, case = "", proof = "") {
     library = .Call(C_welungad_call, enc2utf8(words), case, proof),
     # a path has the bytes that R's own functions give it, also in a locale that isn't UTF-8
     program = run_program(program_path(), enc2native(words), case, proof),
-    stop("neither the C library nor the program welungad is found: ", how_to_find_program, call. = FALSE)
+    stop_without_way()
   )
+}
+
+# Stops since there is no way to the proved call, or not the one that the option names.
+stop_without_way <- function() {
+  wish <- getOption("welungad.way")
+  if (identical(wish, "library")) stop("the option welungad.way is \"library\", and the package was installed without it", call. = FALSE)
+  lacks <- if (is.null(wish)) "neither the C library nor the program welungad is found: " else "the program welungad is not found: "
+  stop(lacks, how_to_find_program, call. = FALSE)
 }
 
 how_to_find_program <- "let the environment variable WELUNGAD name the program, or put it on the path"

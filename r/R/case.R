@@ -3,7 +3,7 @@
 default_alpha <- "1/40"
 
 # What is handed in: a text, and the graph whose names and labels it has. Further parts are what a staged case spends (`levels`)
-# and its looks, and the version of a document of evidence.
+# and its looks, the version of a document of evidence, and the argument that gave a text (`source`) and that of its `level`.
 handed <- function(text, graph = NULL, ...) list(text = text, graph = graph, ...)
 
 # The lines of a component; an edge that is 0 has no line.
@@ -23,17 +23,27 @@ component_lines <- function(component, names, one) {
 # The text of the names and the graph of a case. The graph keeps it, with the names and components that it was made of: a graph
 # that was changed since then is written anew.
 graph_text <- function(graph) {
-  kept <- graph$written
-  if (!is.null(kept) && identical(kept$names, graph$names) && identical(kept$components, graph$components)) return(kept)
+  if (is_as_written(graph)) return(graph$written)
   check_order(graph)
-  if (!is.null(kept)) warn_written(unlist(lapply(graph$components, function(it) c(it$weights, it$edges))), "graph")
+  if (!is.null(graph$written)) warn_written(unlist(lapply(graph$components, function(it) c(it$weights, it$edges))), "graph")
   write_graph(graph)
 }
 
+is_as_written <- function(graph) {
+  kept <- graph$written
+  !is.null(kept) && identical(kept$names, graph$names) && identical(kept$components, graph$components)
+}
+
 # Stops if the weights or the edges of a graph, which are written in their order, have other names than its hypotheses, or have them in
-# another order.
+# another order, if they are not texts, or if edges are not those of its hypotheses.
 check_order <- function(graph) {
+  if (is_as_written(graph)) return(invisible())
+  n <- length(graph$names)
   for (component in graph$components) {
+    if (!all(vapply(component, is.character, NA))) {
+      stop_at("graph", "its shares, weights and edges are texts, as as.character(as_exact(x)) gives them for numbers")
+    }
+    if (!identical(dim(component$edges), c(n, n))) stop_at("graph", "its edges need a row and a column for each hypothesis")
     for (given in c(list(names(component$weights)), dimnames(component$edges))) {
       if (!is.null(given) && !identical(given, graph$labels) && !identical(given, graph$names)) {
         stop_at("graph", "its weights and edges have the names ", listed(given, 4L), ", and its hypotheses ", listed(graph$labels, 4L))

@@ -12,8 +12,19 @@ as_graph <- function(x) {
 # graphicalMCP: a list of hypotheses and transitions.
 graph_of_list <- function(x) {
   parts <- unclass(x)
-  if (!is.null(parts$updated_graph)) return(as_graph(parts$updated_graph))
+  if (!is.null(parts$updated_graph)) return(graph_of_update(parts))
   graph_create(field_of(parts, "hypotheses"), field_of(parts, "transitions"))
+}
+
+# graphicalMCP: a graph in which deleted hypotheses may stay, without weight and edges. Here they are left out. They are given by their
+# names, or by their places in the first graph.
+graph_of_update <- function(parts) {
+  graph <- unclass(parts$updated_graph)
+  weights <- field_of(graph, "hypotheses")
+  deleted <- parts$deleted
+  if (!is.character(deleted)) deleted <- names(unclass(parts$initial_graph)$hypotheses)[deleted]
+  left <- setdiff(seq_along(weights), match(deleted, names(weights)))
+  graph_create(weights[left], field_of(graph, "transitions")[left, left, drop = FALSE])
 }
 
 # gMCP: an object with the slots m and weights. Its edges are numbers, or texts with epsilon. It can mark hypotheses as rejected, which

@@ -23,24 +23,35 @@ names_given <- function(value, count) {
   as.character(value)[seq_len(count)]
 }
 
-`dimnames<-.welungad_exact` <- function(x, value) new_exact(x$given, x$read, x$rule, x$names, x$dim, value)
-
-is.na.welungad_exact <- function(x) {
-  out <- is.na(x$read)
-  if (length(x$dim) > 1) array(out, x$dim, x$dimnames) else stats::setNames(out, x$names)
+# Rows and columns, and their names, as R takes them for a vector of places.
+`dim<-.welungad_exact` <- function(x, value) {
+  places <- seq_along(x$read)
+  dim(places) <- value
+  new_exact(x$given, x$read, x$rule, NULL, dim(places))
 }
+
+`dimnames<-.welungad_exact` <- function(x, value) {
+  places <- seq_along(x$read)
+  dim(places) <- x$dim
+  dimnames(places) <- value
+  new_exact(x$given, x$read, x$rule, x$names, x$dim, dimnames(places))
+}
+
+`length<-.welungad_exact` <- function(x, value) x[seq_len(value)]
+
+t.welungad_exact <- function(x) numbers_at(x, t(places_of(x)))
+
+is.na.welungad_exact <- function(x) shaped(is.na(x$read), x)
+
+# Values with the names of numbers, or in their rows and columns.
+shaped <- function(values, x) if (length(x$dim) > 1) array(values, x$dim, x$dimnames) else stats::setNames(values, x$names)
 
 anyNA.welungad_exact <- function(x, recursive = FALSE) anyNA(x$read)
 
 # ---- parts
 
 # The places of the numbers, with their names, or in rows and columns.
-places_of <- function(x) {
-  places <- seq_along(x$read)
-  if (length(x$dim) > 1) return(array(places, x$dim, x$dimnames))
-  names(places) <- x$names
-  places
-}
+places_of <- function(x) shaped(seq_along(x$read), x)
 
 # The places in rows and columns.
 table_places <- function(x) {
@@ -100,7 +111,7 @@ check_single <- function(x) if (length(x) != 1) stop("[[ takes one number, and n
 rep.welungad_exact <- function(x, ...) x[rep(seq_along(x), ...)]
 
 c.welungad_exact <- function(...) {
-  parts <- lapply(list(...), exact_of, what = "c")
+  parts <- lapply(Filter(Negate(is.null), list(...)), exact_of, what = "c")
   # names as R makes them, also of the arguments
   places <- unlist(lapply(parts, function(it) stats::setNames(seq_along(it$read), it$names)))
   new_exact(joined(parts, "given"), joined(parts, "read"), joined(parts, "rule"), names(places))
@@ -109,10 +120,42 @@ c.welungad_exact <- function(...) {
 # A part of several numbers that were read, one after the other.
 joined <- function(numbers, part) unlist(lapply(numbers, function(it) unclass(it)[[part]]), use.names = FALSE)
 
+# ---- comparisons
+
+# Comparisons are exact; NA for texts that are no numerals. What is computed would be other numbers than those that were read.
+Ops.welungad_exact <- function(e1, e2) {
+  if (!.Generic %in% c("==", "!=", "<", "<=", ">", ">=")) {
+    stop("numbers that were read are compared, and not computed with: gmp::as.bigq(as.character(x)) has their fractions", call. = FALSE)
+  }
+  sides <- lapply(list(e1, e2), exact_of, what = .Generic)
+  counts <- vapply(sides, length, 1L)
+  if (counts[1] != counts[2] && !1L %in% counts) stop_at(.Generic, whole_text(counts[2]), " given for ", count_of(counts[1], "number"))
+  if (0L %in% counts) return(logical())
+  values <- lapply(sides, function(it) fraction(it$read))
+  shaped(as.logical(do.call(.Generic, values)), sides[[which.max(counts)]])
+}
+
+# Numbers are the same if they have the same value, or the same text with epsilon.
+duplicated.welungad_exact <- function(x, incomparables = FALSE, ...) {
+  values <- as.character(fraction(x$read))
+  duplicated(ifelse(is.na(values), x$read, values), incomparables, ...)
+}
+
+unique.welungad_exact <- function(x, incomparables = FALSE, ...) x[!duplicated(x, incomparables, ...)]
+
+# ---- texts and tables
+
 as.character.welungad_exact <- function(x, ...) stats::setNames(x$read, x$names)
 
-as.data.frame.welungad_exact <- function(x, ...) {
-  data.frame(given = x$given, read = x$read, value = double_of(x$read), rule = x$rule, stringsAsFactors = FALSE)
+# A row for each number, called as it is if that is distinct. As a column of another data frame, numbers stay what they are.
+as.data.frame.welungad_exact <- function(x, row.names = NULL, optional = FALSE, ...) {
+  rows <- if (!is.null(x$names) || length(x$dim) == 2) element_texts(x)
+  if (anyNA(rows) || anyDuplicated(rows)) rows <- NULL
+  if (optional && length(x$dim) < 2) {
+    if (is.null(rows)) rows <- .set_row_names(length(x))
+    return(structure(list(unname(x)), row.names = rows, class = "data.frame"))
+  }
+  data.frame(given = x$given, read = x$read, value = double_of(x$read), rule = x$rule, row.names = rows, stringsAsFactors = FALSE)
 }
 
 format.welungad_exact <- function(x, ...) as.character(x)

@@ -3,7 +3,7 @@
 # The exact fractions of numerals, NA for other texts. Fractions as the program prints them take the short way.
 fraction <- function(text) {
   if (length(text) == 0) return(gmp::as.bigq(character()))
-  plain <- !is.na(text) & grepl("^-?[0-9]+(/[1-9][0-9]*)?\\z", text, perl = TRUE)
+  plain <- !is.na(text) & grepl("^-?(0|[1-9][0-9]*)(/[1-9][0-9]*)?\\z", text, perl = TRUE)
   if (all(plain)) return(gmp::as.bigq(unname(text)))
   parts <- lapply(text, function(t) if (is.na(t)) gmp::NA_bigq_ else numeral_value(t))
   do.call(c, parts)

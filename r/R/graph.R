@@ -62,7 +62,7 @@ edge_texts <- function(x, what) {
     place <- element_texts(x)[wrong[1]]
     stop_at(what, "the edge at ", place, " is ", quoted(texts[wrong[1]]), ", which is neither a number nor an expression")
   }
-  texts[grepl("^[-+]?0*[.]?0*(/[0-9]*[1-9][0-9]*)?\\z", texts, perl = TRUE) & grepl("0", texts, fixed = TRUE)] <- "0"
+  texts[grepl("^[-+]?(0+[.]?0*|[.]0+)(/0*[1-9][0-9]*)?\\z", texts, perl = TRUE)] <- "0"
   texts
 }
 
@@ -70,7 +70,7 @@ as_read <- function(x) unique(data.frame(given = x$given, read = x$read, rule = 
 
 # Lets the proved call read a graph, and keeps the canonical spelling, and the text that is handed in for it.
 new_graph <- function(names, labels, components, read = NULL) {
-  given <- structure(list(names = names, labels = labels, components = components), class = "welungad_graph")
+  given <- structure(list(names = names, labels = labels, components = components, read = read), class = "welungad_graph")
   canon <- ask("canon", handed(case_text(given), given))
   graph <- list(names = names, labels = labels, components = labelled(canon$components, labels), read = read)
   graph$written <- write_graph(graph)
@@ -85,6 +85,9 @@ graph_entangle <- function(..., shares) {
   }
   first <- graphs[[1]]
   for (graph in graphs) {
+    check_graph(graph)
+    # which warns of what was changed by hand
+    graph_text(graph)
     if (!identical(graph[c("names", "labels")], first[c("names", "labels")])) {
       stop_at("...", "the graphs have the same hypotheses in the same order")
     }
@@ -138,7 +141,7 @@ graph_read <- function(file, form = c("text", "csv", "json"), alpha = NULL) {
   if (form != "csv" && !is.null(alpha)) stop_at("alpha", "a case of the form ", form, " has a level of its own")
   bytes <- readBin(file, "raw", file.size(file))
   words <- c("canon", if (form != "text") c("--form", form), if (!is.null(alpha)) c("--alpha", level_of(alpha)))
-  case <- ask(words, handed(bytes))
+  case <- ask(words, handed(bytes, source = paste("file:", quoted(file)), level = alpha))
   graph <- new_graph(case$names, case$names, case$components)
   list(graph = graph, alpha = case$alpha, p = case$p, stages = case$stages)
 }
@@ -195,6 +198,17 @@ say_rounded <- function(text) {
 
 check_graph <- function(graph) {
   if (!inherits(graph, "welungad_graph")) stop_at("graph", "a graph is needed that graph_create or graph_entangle made")
+  check_parts(graph, c("names", "labels", "components", "read", "written"), "a graph")
+  for (component in graph$components) check_parts(component, c("share", "weights", "edges"), "a component of a graph")
+  if (identical(graph$labels, graph$names)) return(invisible())
+  if (length(graph$labels) != length(graph$names)) stop_at("graph", "one label is needed for each hypothesis")
+  check_labels(graph$names, graph$labels)
+}
+
+# Stops at a part that was added by hand, such as the `transitions` of other packages, since no call reads it.
+check_parts <- function(x, known, what, argument = "graph") {
+  other <- !names(x) %in% known
+  if (any(other)) stop_at(argument, what, " has the parts ", listed(known), ", and nothing reads a part ", quoted(names(x)[other][1]))
 }
 
 has_epsilon <- function(graph) any(grepl(epsilon, unlist(graph$components), fixed = TRUE))
@@ -202,6 +216,7 @@ has_epsilon <- function(graph) any(grepl(epsilon, unlist(graph$components), fixe
 # ---- printing
 
 as.data.frame.welungad_graph <- function(x, ..., exact = FALSE) {
+  check_order(x)
   parts <- lapply(seq_along(x$components), function(c) {
     component <- x$components[[c]]
     edges <- component$edges
@@ -225,6 +240,7 @@ format.welungad_graph <- function(x, ...) {
 
 # A row for each hypothesis: its weight over all graphs, and how many edges leave it and lead to it.
 summary.welungad_graph <- function(object, ...) {
+  check_order(object)
   edges <- lapply(object$components, function(it) it$edges != "0")
   any_edge <- Reduce(`|`, edges)
   data.frame(hypothesis = object$labels, weight = double_of(total_weights(object)), edges_from = unname(rowSums(any_edge)),
@@ -232,6 +248,7 @@ summary.welungad_graph <- function(object, ...) {
 }
 
 print.welungad_graph <- function(x, ...) {
+  check_order(x)
   cat(format(x), "\n", sep = "")
   for (component in x$components) {
     if (length(x$components) > 1) cat("Share ", component$share, "\n", sep = "")

@@ -12,7 +12,7 @@ graph_test_many <- function(graph, P, alpha = 0.025) {
   progress <- progress_over(nrow(P))
   on.exit(progress$close())
   for (rows in blocks_over(nrow(P))) {
-    block <- decide(graph, level, P[rows, , drop = FALSE])
+    block <- decide(graph, level, P[rows, , drop = FALSE], rows)
     done <- block$statuses == 0L
     out[rows[done], ] <- block$rejected[done, ]
     progress$at(max(rows))
@@ -28,6 +28,7 @@ rows_of_p <- function(P, graph) {
   }
   n <- length(graph$names)
   if (ncol(P) != n) stop_at("P", whole_text(ncol(P)), " columns given for ", whole_text(n), " hypotheses")
+  if (!is.data.frame(P)) check_elements(P, "P")
   P <- if (is_of_doubles(P)) matrix_of_doubles(P) else matrix_of_texts(P)
   given <- colnames(P)
   if (is.null(given) && any(rownames(P) %in% unlist(hypothesis_keys(graph)))) {
@@ -46,16 +47,15 @@ is_plain <- function(x) (is.double(x) || is.integer(x)) && !is.object(x)
 
 matrix_of_doubles <- function(P) {
   if (is.data.frame(P)) {
-    rows <- attr(P, "row.names")
     values <- vapply(P, as.double, numeric(nrow(P)))
-    P <- matrix(values, nrow(P), length(P), dimnames = list(if (is.character(rows)) rows, names(P)))
+    P <- matrix(values, nrow(P), length(P), dimnames = list(own_row_names(P), names(P)))
   }
   storage.mode(P) <- "double"
   P
 }
 
 matrix_of_texts <- function(P) {
-  read <- if (is.data.frame(P)) exact_frame(P, "P") else exact_of(P, "P")
+  read <- if (is.data.frame(P)) exact_frame(P, "P", own_row_names(P)) else exact_of(P, "P")
   report_rounded(read, paste("row", rep(whole_text(seq_len(read$dim[1])), read$dim[2])))
   matrix(read$read, read$dim[1], read$dim[2], dimnames = read$dimnames)
 }
@@ -66,7 +66,7 @@ check_p <- function(P) {
   wrong <- which(is.na(values) | values < 0 | values > 1)
   if (length(wrong) == 0) return(invisible())
   at <- wrong[order((wrong - 1) %% nrow(P))][1]
-  given <- if (is.double(P) && !is.na(P[at])) decimal_text(P[at], 15) else as.character(P[at])
+  given <- if (is.double(P) && !is.na(P[at])) double_text(P[at]) else as.character(P[at])
   stop_at("P", "row ", whole_text((at - 1) %% nrow(P) + 1), ", column ", whole_text((at - 1) %/% nrow(P) + 1), " is ",
     if (is.na(given)) "NA" else given, ", which is not a p-value")
 }
@@ -84,7 +84,7 @@ report_many_rounded <- function(P) {
 
 # Decides a block of rows of doubles by one call. Returns a logical matrix of the rejected, and a status for each row: 0, or 5 if it is
 # too wide.
-decided_doubles <- function(graph, level, P) {
+decided_doubles <- function(graph, level, P, rows = seq_len(nrow(P))) {
   text <- case_text(graph, level)
   found <- .Call(C_welungad_rows, charToRaw(text), P)
   if (found$status == 0L && all(found$statuses %in% c(0L, 5L)) && !anyNA(found$rejected)) return(found)
@@ -94,8 +94,8 @@ decided_doubles <- function(graph, level, P) {
   stop("the C library gives no whole answer to many trials: it ends with ", found$status, call. = FALSE)
 }
 
-# Decides a block of rows one by one, as decided_doubles.
-decided_texts <- function(graph, level, P) {
+# Decides a block of rows one by one, as decided_doubles. `rows` are their numbers.
+decided_texts <- function(graph, level, P, rows = seq_len(nrow(P))) {
   if (is.double(P)) P <- matrix(read_doubles(P, "P")$read, nrow(P))
   parts <- graph_text(graph)
   p <- do.call(paste, lapply(seq_len(ncol(P)), function(j) P[, j]))
@@ -107,10 +107,18 @@ decided_texts <- function(graph, level, P) {
     if (answer$status == 5L && is_refusal(5L, whole_lines(answer$text))) {
       out$statuses[i] <- 5L
     } else {
-      out$rejected[i, ] <- taken(answer, "test", case)$rejected
+      out$rejected[i, ] <- rejected_in(answer, case, rows[i])
     }
   }
   out
+}
+
+# What the answer to a row rejects. The refusal of a p-value names the row.
+rejected_in <- function(answer, case, row) {
+  tryCatch(taken(answer, "test", case), welungad_refusal = function(refusal) {
+    if (!startsWith(refusal$where, "p: ")) stop(refusal)
+    refuse(refusal$status, refusal$line, refusal$amount, paste0("P: row ", whole_text(row), sub("^p", "", refusal$where)))
+  })$rejected
 }
 
 blocks_over <- function(rows) split(seq_len(rows), (seq_len(rows) - 1L) %/% rows_of_block)

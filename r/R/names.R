@@ -9,7 +9,8 @@ is_name <- function(text) grepl("^[A-Za-z0-9_.-]{1,32}\\z", text, perl = TRUE)
 texts_in <- function(x, what) {
   is_row <- is.list(x) && !is.data.frame(x) && all(lengths(x) == 1) && all(vapply(x, is.atomic, NA))
   if (!is.atomic(x) && !is_row) stop_at(what, "texts are needed, and not an object of class ", class(x)[1])
-  texts <- as.character(x)
+  # of a list R gives the number of a factor, and not its text
+  texts <- if (is_row) vapply(x, as.character, "", USE.NAMES = FALSE) else as.character(x)
   check_encoding(texts, what)
   texts
 }
@@ -57,13 +58,23 @@ label_of <- function(names, graph) graph$labels[match(names, graph$names)]
 positions_of <- function(graph, given, what) {
   n <- length(graph$names)
   if (is.logical(given) && !anyNA(given)) return(which(arranged(given, hypothesis_keys(graph), what, n)))
-  if (is_number(given) && is.null(names(given)) && all(given %in% seq_len(n))) return(as.integer(given))
+  if (is_number(given) && is.null(names(given)) && all(given %in% seq_len(n))) return(known_positions(graph, given, what))
   if (is.factor(given)) given <- as.character(given)
   if (!is.character(given)) stop_at(what, "hypotheses are given by their names, labels or positions")
   at <- match(given, graph$labels)
   at[is.na(at)] <- match(given[is.na(at)], graph$names)
   if (anyNA(at)) stop_at(what, "no hypothesis has the name ", quoted(given[is.na(at)][1]))
   at
+}
+
+# Positions as integers. Stops at a number that is the label or the name of a hypothesis at another position, since either could be meant.
+known_positions <- function(graph, given, what) {
+  for (key in hypothesis_keys(graph)) {
+    named <- match(whole_text(given), key)
+    other <- which(!is.na(named) & named != given)
+    if (length(other)) stop_at(what, whole_text(given[other[1]]), " is the name of another hypothesis: give names as texts")
+  }
+  as.integer(given)
 }
 
 # What hypotheses may be called.

@@ -29,25 +29,33 @@ exact_of <- function(x, what) {
     read <- list(given = texts, read = texts, rule = ifelse(is.na(texts), "missing", "fraction of gmp"))
   } else if (inherits(x, "integer64")) {
     read <- read_integer64(x)
-  } else if (is.numeric(x) || (is.logical(x) && all(is.na(x)))) {
-    read <- read_doubles(as.double(x), what, names(x))
+  } else if (has_doubles(x) || (is.logical(x) && all(is.na(x)))) {
+    read <- read_doubles(as.double(x), what, names_of_places(x))
   } else {
     stop_at(what, "numbers are doubles, integers, texts or fractions of gmp, and not of class ", class(x)[1])
   }
   new_exact(read$given, read$read, read$rule, names_in(x), dim(x), if (!is.null(dim(x))) dimnames(x))
 }
 
+# Whether numbers are doubles or integers of R, and no dates, factors, numbers with units, or what a package holds otherwise.
+has_doubles <- function(x) is.numeric(x) && (is.double(x) || is.integer(x)) && !inherits(x, "units")
+
 # Stops at a text whose bytes are none in its encoding, as one of a file in Latin-1 that was read as UTF-8.
 check_encoding <- function(x, what) {
   wrong <- which(!is.na(x) & (Encoding(x) == "bytes" | !validEnc(x)))
-  if (length(wrong)) stop_at(what, place_text(wrong[1], names(x)), " is ", quoted(x[wrong[1]]), ", whose bytes are not a text in its encoding")
+  if (length(wrong)) {
+    stop_at(what, place_text(wrong[1], names_of_places(x)), " is ", quoted(x[wrong[1]]), ", whose bytes are not a text in its encoding")
+  }
 }
 
-# The names of the elements of an argument; gmp keeps more of them than there are elements.
+# What the elements of an argument are called in messages: their names, or their rows and columns.
+names_of_places <- function(x) if (length(dim(x)) == 2) element_texts(list(dim = dim(x), dimnames = dimnames(x))) else names(x)
+
+# The names of the elements of an argument; NULL if none has one. gmp keeps more of them than there are elements.
 names_in <- function(x) {
   own <- names(x)
   if (length(own) > length(x)) own <- own[seq_along(x)]
-  if (inherits(x, c("bigq", "bigz")) && all(is.na(own))) NULL else own
+  if (all(is.na(own) | !nzchar(own))) NULL else own
 }
 
 # The numerators `n` and denominators `d` of the fractions with d up to 10,000 at the doubles, or at most `room` beside them.
@@ -104,18 +112,21 @@ numeral_value <- function(text) {
   text <- sub("^\\+", "", trimws(text))
   if (!is_numeral(text)) return(gmp::NA_bigq_)
   if (grepl("/", text, fixed = TRUE)) {
-    parts <- gmp::as.bigz(strsplit(text, "/", fixed = TRUE)[[1]])
+    parts <- gmp::as.bigz(without_zeros(strsplit(text, "/", fixed = TRUE)[[1]]))
     return(if (parts[2] == 0) gmp::NA_bigq_ else gmp::as.bigq(parts[1], parts[2]))
   }
   parts <- strsplit(tolower(text), "e", fixed = TRUE)[[1]]
   digits <- strsplit(parts[1], ".", fixed = TRUE)[[1]]
-  whole <- gmp::as.bigz(sub("^(-?)0*([0-9])", "\\1\\2", paste(digits, collapse = "")))
+  whole <- gmp::as.bigz(without_zeros(paste(digits, collapse = "")))
   if (whole == 0) return(gmp::as.bigq(0))
   exponent <- if (length(parts) == 2) as.numeric(parts[2]) else 0
   if (abs(exponent) > 10000) return(gmp::NA_bigq_)
   shift <- exponent - if (length(digits) == 2) nchar(digits[2]) else 0
   if (shift >= 0) gmp::as.bigq(whole * ten_to(shift)) else gmp::as.bigq(whole, ten_to(-shift))
 }
+
+# Whole numbers without zeros at their beginning, since gmp reads digits after a zero as octal ones.
+without_zeros <- function(digits) sub("^(-?)0+([0-9])", "\\1\\2", digits)
 
 ten_to <- function(n) gmp::as.bigz(10)^n
 

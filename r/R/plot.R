@@ -55,6 +55,7 @@ titles_without <- function(deleted) {
 # Draws a graph; `all` has the hypotheses that have a place, and those that the graph lacks are drawn as removed. `main` has titles, of
 # which the first that fits is taken.
 draw_graph <- function(graph, all, layout, main, cex, marked = NULL) {
+  check_order(graph)
   nodes <- nodes_of(graph, all, layout, marked)
   old <- graphics::par(mar = c(0.5, 0.5, if (is.null(main)) 0.5 else 2, 0.5))
   on.exit(graphics::par(old))
@@ -106,9 +107,11 @@ checked_layout <- function(layout, graph) {
   n <- length(graph$names)
   if (is.null(layout)) return(default_layout(n))
   layout <- as.matrix(layout)
-  if (!is.numeric(layout) || !identical(dim(layout), c(n, 2L)) || anyNA(layout)) {
+  if (!is.numeric(layout) || !identical(dim(layout), c(n, 2L)) || !all(is.finite(layout))) {
     stop_at("layout", "a matrix of numbers is needed with a row of two coordinates for each hypothesis")
   }
+  same <- which(duplicated(unname(layout)))
+  if (length(same)) stop_at("layout", place_text(same[1], rownames(layout)), " has the place of another hypothesis")
   if (!is.null(rownames(layout))) layout <- layout[places_among(rownames(layout), hypothesis_keys(graph), "layout"), , drop = FALSE]
   unname(layout)
 }

@@ -112,10 +112,10 @@ refuse_case <- function(status, line, case) {
 # ---- the argument and the place
 
 # Left: what the line says of the case. Right: the argument and the place, with the words of the line that the parentheses
-# select; a name of the program becomes its label.
+# select: %s is the label of a hypothesis, and # a number.
 place_table <- rbind(
   c("^alpha$", "alpha", "the level"),
-  c("^share component (\\S+)$", "shares", "the share of graph %s"),
+  c("^share component (\\S+)$", "shares", "the share of graph #"),
   c("^share sum$", "shares", "the shares sum to more than 1"),
   c("^weight count component \\S+$", "hypotheses", "the number of the weights is not that of the hypotheses"),
   c("^weight of (\\S+) component \\S+$", "hypotheses", "the weight of %s"),
@@ -127,12 +127,12 @@ place_table <- rbind(
   c("^p missing (\\S+)$", "p", "the p-value of %s is missing"),
   c("^p of (\\S+)$", "p", "the p-value of %s"),
   c("^no stage$", "levels", "the number of stages is 0"),
-  c("^spend count (\\S+)$", "levels", "the number of the levels of hypothesis %s is not that of the stages"),
-  c("^step (\\S+) of (\\S+)$", "levels", "the weight of row %s of %s is out of order"),
-  c("^spend of (\\S+) stage (\\S+)$", "levels", "the level of %s at stage %s is out of order"),
+  c("^spend count (\\S+)$", "levels", "the number of the levels of hypothesis # is not that of the stages"),
+  c("^step (\\S+) of (\\S+)$", "levels", "the weight of row # of %s is out of order"),
+  c("^spend of (\\S+) stage (\\S+)$", "levels", "the level of %s at stage # is out of order"),
   c("^spend sum of (\\S+)$", "levels", "the levels of %s sum to more than its own"),
-  c("^arrival (\\S+)(?: stage| repeated| p)?$", "looks", "row %s is not allowed"),
-  c("^(?:duplicate )?name (\\S+)$", "hypotheses", "the name of hypothesis %s is not allowed"),
+  c("^arrival (\\S+)(?: stage| repeated| p)?$", "looks", "row # is not allowed"),
+  c("^(?:duplicate )?name (\\S+)$", "hypotheses", "the name of hypothesis # is not allowed"),
   c("^no hypothesis$", "hypotheses", "there is none")
 )
 
@@ -143,6 +143,7 @@ argument_table <- rbind(
   c("^limit: (stages|spend steps) ", "levels", "there are too many stages or rows"),
   c("^limit: closure ", "graph", "it has too many hypotheses"),
   c("^limit: size ", "size", "there are too many hypotheses, or none"),
+  c("^malformed: kind$", "p", "no p-values are given"),
   c("^malformed: proof line ", "evidence", "a line is not allowed"),
   c("^limit: proof bytes ", "evidence", "it is too long"),
   c("^malformed: record ", "store", "the file has a look that is not of this case"),
@@ -152,7 +153,7 @@ argument_table <- rbind(
 
 # The argument and the place that a line is about, and what was given there; "" if it is about none.
 where_of <- function(line, case) {
-  if (is.null(case$graph)) return("")
+  if (is.null(case$graph)) return(source_of(line, case))
   if (grepl("^(malformed|limit): line [0-9]+: ", line)) return(where_in_text(line, case))
   rest <- sub("^(malformed: case|limit: case: part|limit: case): ?(part )?", "", line)
   for (i in seq_len(if (identical(rest, line)) 0 else nrow(place_table))) {
@@ -163,10 +164,18 @@ where_of <- function(line, case) {
   if (length(at)) paste0(argument_table[at[1], 2], ": ", argument_table[at[1], 3]) else ""
 }
 
-# A sentence with the words of a line, names of the program as labels.
+# The argument that gave a case as a text. A sheet has its level beside it.
+source_of <- function(line, case) {
+  if (!is.null(case[["level"]]) && grepl("^usage: |alpha$", line)) return("alpha: the level")
+  if (is.null(case$source)) "" else case$source
+}
+
+# A sentence with the words of a line.
 filled <- function(sentence, words, graph) {
   labels <- label_of(words, graph)
-  do.call(sprintf, as.list(c(sentence, ifelse(is.na(labels), words, labels))))
+  kinds <- regmatches(sentence, gregexpr("%s|#", sentence))[[1]]
+  shown <- ifelse(kinds == "#" | is.na(labels), words, labels)
+  do.call(sprintf, as.list(c(gsub("#", "%s", sentence, fixed = TRUE), shown)))
 }
 
 # What was given for one p-value or weight, or for the level.
@@ -197,7 +206,7 @@ where_in_text <- function(line, case) {
   switch(words[1],
     alpha = sprintf("alpha: the level is %s", quoted(given[1])),
     hypotheses = "hypotheses: the names",
-    p = sprintf("p: the p-value of %s is %s", case$graph$labels[at], quoted(given[at])),
+    p = if (length(given)) sprintf("p: the p-value of %s is %s", case$graph$labels[at], quoted(given[at])) else "p: it has no number",
     component = sprintf("shares: a share is %s", quoted(given[1])),
     weights = sprintf("hypotheses: the weight of %s is %s", case$graph$labels[at], quoted(given[at])),
     edge = sprintf("transitions: the edge from %s to %s is %s", named(1), named(2), quoted(paste(given[-(1:2)], collapse = " "))),
@@ -213,10 +222,22 @@ where_in_text <- function(line, case) {
 culprit <- function(words, kind) {
   wrong <- switch(kind,
     "zero denominator" = grepl("/0+$", words),
-    digits = nchar(gsub("[^0-9]", "", words)) > 30,
+    digits = vapply(words, has_many_digits, NA),
     !is_numeral(words)
   )
   if (any(wrong)) which(wrong)[1] else 1L
+}
+
+# Whether a numeral has more than 38 digits, as docs/FORMATS.md counts them.
+has_many_digits <- function(word) {
+  if (!is_numeral(word)) return(FALSE)
+  if (grepl("/", word, fixed = TRUE)) return(any(nchar(sub("^[-+]?0*", "", strsplit(word, "/", fixed = TRUE)[[1]])) > 38))
+  parts <- regmatches(word, regexec("^[-+]?([0-9]*)[.]?([0-9]*)[eE]?(.*)$", word))[[1]]
+  digits <- sub("^0+", "", paste0(parts[2], parts[3]))
+  kept <- sub("0+$", "", digits)
+  # how many places after the point the last digit other than 0 has
+  places <- nchar(parts[3]) - sum(as.numeric(parts[4]), na.rm = TRUE) - (nchar(digits) - nchar(kept))
+  nzchar(kept) && max(nchar(kept), nchar(kept) - places, places) > 38
 }
 
 # ---- amounts
@@ -228,32 +249,37 @@ amount_of <- function(line, case) {
   if (is.null(graph) || !grepl("^malformed: case: (share|weight|row|spend) sum", line)) return("")
   words <- strsplit(sub("^malformed: case: ", "", line), " ", fixed = TRUE)[[1]]
   component <- graph$components[[if ("component" %in% words) as.integer(words[length(words)]) else 1L]]
+  doubles <- doubles_in(graph)
   switch(words[1],
-    share = sum_sentence("The shares", vapply(graph$components, `[[`, "", "share"), argument = "shares"),
-    weight = sum_sentence("The weights", component$weights, argument = "hypotheses"),
+    share = sum_sentence("The shares", vapply(graph$components, `[[`, "", "share"), argument = "shares", doubles = doubles),
+    weight = sum_sentence("The weights", component$weights, argument = "hypotheses", doubles = doubles),
     row = row_sentence(match(words[4], graph$names), component, graph),
     spend = levels_sentence(words[4], case)
   )
 }
 
+# The texts of the doubles of a graph that were read as decimals.
+doubles_in <- function(graph) graph$read$read[graph$read$rule == "shortest decimal"]
+
 sentence_of <- function(parts) if (length(parts)) paste0(listed(parts, 3L), ".") else ""
 
 alpha_of <- function(case) words_after(strsplit(as_text_of(case$text), "\n", fixed = TRUE)[[1]], "alpha")
 
-# `texts` are the terms, and `argument` is what they were given for.
-sum_sentence <- function(what, texts, bound = gmp::as.bigq(1), argument = NULL) {
+# `texts` are the terms, `argument` is what they were given for, and `doubles` are those that were given as doubles.
+sum_sentence <- function(what, texts, bound = gmp::as.bigq(1), argument = NULL, doubles = character()) {
   total <- sum_of(fraction(texts))
   if (is.na(total) || total <= bound) return("")
   excess <- decimal_text(as_double(total - bound), 3)
   sentence <- sprintf("%s sum to %s, which is %s above %s.", what, exact_decimal(total), excess, exact_decimal(bound))
-  paste(c(sentence, cure_of_sum(texts, bound, argument)), collapse = "\n  ")
+  paste(c(sentence, cure_of_sum(texts, bound, argument, doubles)), collapse = "\n  ")
 }
 
-# What doubles beside fractions have to do with a sum, and how they are read as these fractions.
-cure_of_sum <- function(texts, bound, argument) {
+# What numbers beside fractions have to do with a sum, and how doubles are read as these fractions; texts stay as they are written.
+cure_of_sum <- function(texts, bound, argument, doubles) {
   sentences <- beside_sentences(texts)
   if (length(sentences) == 0) return(NULL)
   found <- beside(texts)$fraction
+  found[!texts %in% doubles] <- NA
   meant <- sum_of(fraction(ifelse(is.na(found), texts, found)))
   c(
     sentence_of(sentences),
@@ -269,7 +295,7 @@ row_sentence <- function(i, component, graph) {
   texts <- vapply(given, canonical_edge, "", USE.NAMES = FALSE)
   total <- sum_of(numbers_of(texts))
   if (is_quotients(total)) return(sprintf("%s sum to %s, which is above 1.", what, text_of(total)))
-  sum_sentence(what, given, argument = "transitions")
+  sum_sentence(what, given, argument = "transitions", doubles = doubles_in(graph))
 }
 
 levels_sentence <- function(name, case) {

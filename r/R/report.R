@@ -5,6 +5,8 @@ graph_report <- function(x, file, p = NULL, alpha = 0.025, title = NULL) {
   x <- decided(x, p, alpha, missing(alpha))
   file <- one_text(file, "file")
   title <- enc2utf8(if (is.null(title)) format(x) else one_text(title, "title"))
+  # its bytes are handed over as they are, also in a locale that is not UTF-8
+  Encoding(title) <- "unknown"
   room <- tempfile("welungad-")
   dir.create(room)
   on.exit(unlink(room, recursive = TRUE))
@@ -36,7 +38,7 @@ one_text <- function(x, what) {
 write_decided <- function(x, room) {
   place <- function(name) file.path(room, name)
   write_whole(charToRaw(x$case), place("trial.txt"))
-  write_whole(unlist(lapply(enc2utf8(x$graph$labels), function(label) c(charToRaw(label), as.raw(0)))), place("labels"))
+  write_whole(bytes_of_labels(x$graph$labels), place("labels"))
   write_whole(charToRaw(paste0(x$report, "\n", collapse = "")), place("report"))
   c(place("trial.txt"), paste0("--labels=", place("labels")), paste0("--report=", place("report")),
     if (inherits(x, "welungad_test") && x$priority != "first") paste0("--priority=", x$priority))

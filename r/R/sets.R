@@ -77,11 +77,28 @@ as.data.frame.welungad_closure <- function(x, ..., exact = FALSE) {
 
 # Some of the sets.
 `[.welungad_closure` <- function(x, i, ...) {
-  x$sets <- x$sets[i]
-  x$weights <- x$weights[i, , drop = FALSE]
-  for (part in c("local", "closed", "bound")) x[[part]] <- x[[part]][i]
+  at <- places_of_sets(x, i)
+  x$sets <- x$sets[at]
+  x$weights <- x$weights[at, , drop = FALSE]
+  for (part in c("local", "closed", "bound")) x[[part]] <- x[[part]][at]
   x
 }
+
+# The places of some of the sets of a result, all of which are there.
+places_of_sets <- function(x, i) {
+  at <- seq_along(x$sets)[i]
+  if (anyNA(at)) stop_at("i", "sets are taken by their places from 1 to ", whole_text(length(x$sets)))
+  at
+}
+
+# The first and the last sets, since R takes the number of a result's parts for that of its sets.
+head.welungad_closure <- function(x, n = 6L, ...) x[utils::head(seq_along(x$sets), n)]
+
+tail.welungad_closure <- function(x, n = 6L, ...) x[utils::tail(seq_along(x$sets), n)]
+
+head.welungad_bounds <- head.welungad_closure
+
+tail.welungad_bounds <- tail.welungad_closure
 
 format.welungad_closure <- function(x, ...) {
   paste0("Closed test of ", count_of(length(x$sets), "intersection"), " at level ", level_text(x$alpha))
@@ -150,8 +167,9 @@ as.data.frame.welungad_bounds <- function(x, ...) {
 
 # Some of the sets.
 `[.welungad_bounds` <- function(x, i, ...) {
-  x$sets <- x$sets[i]
-  x$bound <- x$bound[i]
+  at <- places_of_sets(x, i)
+  x$sets <- x$sets[at]
+  x$bound <- x$bound[at]
   x
 }
 

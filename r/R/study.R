@@ -1,26 +1,40 @@
 # Studies: looks that are kept in a file. The file has positions of hypotheses and no names, so the canonical text of the case is
-# kept beside it, and a case with another text is refused.
+# kept beside it, and a case with another text is refused. So are labels that are not the program's names.
 
 graph_study <- function(case, store, looks = NULL) {
   text <- study_text(case)
-  canon <- program_answer("canon", handed(text$text, text$graph))
+  canon <- program_answer("canon", handed(text$text, text$graph, source = "case: the text"))
   graph <- if (is.null(text$graph)) graph_of_case(canon) else text$graph
   if (length(canon$stages) == 0) stop_at("case", "a study has a staged case")
   if (any(startsWith(canon$stages, "arrive "))) stop_at("case", "a study begins without looks: they are given to `looks`")
   store <- checked_store(store)
   looks <- read_looks(graph, looks)
   hold_case(canon$lines, store)
+  hold_labels(graph, store)
   commands <- c(if (nrow(looks)) paste("look", looks$name, whole_text(looks$stage), looks$read), "show")
   new_study(graph, store, looks, run_study(handed(text$text, graph, looks = looks), store, commands))
 }
 
 # The text of a case, and its graph if it is known.
 study_text <- function(case) {
-  if (inherits(case, "welungad_stages")) return(list(text = case$case, graph = case$graph))
+  if (inherits(case, "welungad_stages")) {
+    check_unchanged(case)
+    return(list(text = case$case, graph = case$graph))
+  }
   if (!is.character(case) && !is.raw(case)) stop_at("case", "a result of graph_stages, or the text of a case is needed")
   bytes <- bytes_of(case, "case")
   if (any(bytes == 0)) stop_at("case", "it has a byte 0")
   list(text = rawToChar(bytes), graph = NULL)
+}
+
+# Stops if a staged test was changed by hand, since its text alone is read.
+check_unchanged <- function(x) {
+  check_parts(x, c("graph", "alpha", "plan", "looks", "rejections", "rejected", "case", "report"), "a staged test", "case")
+  alpha <- words_after(strsplit(x$case, "\n", fixed = TRUE)[[1]], "alpha")
+  own <- graph_text(x$graph)
+  is_same <- isTRUE(as.logical(fraction(alpha) == fraction(as.character(x$alpha)))) &&
+    startsWith(x$case, paste0("alpha ", alpha, "\n", own$head, own$body))
+  if (!is_same) stop_at("case", "its level or its graph was changed: call graph_stages with the new one")
 }
 
 graph_of_case <- function(case) list(names = case$names, labels = case$names)
@@ -40,29 +54,57 @@ checked_store <- function(store) {
 
 case_file <- function(store) paste0(store, ".case")
 
-# Stops if the file of looks was made for another case; writes the case beside it if it is the first call. The file of the case
-# appears as a whole or not at all. It is never replaced where files can have links; elsewhere only by a call at the same moment.
+# Stops if the file of looks was made for another case; writes the case beside it if it is the first call.
 hold_case <- function(lines, store) {
   place <- case_file(store)
   if (!file.exists(place)) {
     if (file.exists(store)) {
       stop_at("store", store, " has no ", place, " beside it, so it is not known for which case it was made")
     }
-    part <- tempfile("welungad-", dirname(store))
-    on.exit(unlink(part))
-    write_whole(charToRaw(paste0(lines, "\n", collapse = "")), part)
-    # not every file system has links
-    linked <- suppressWarnings(file.link(part, place))
-    if (!linked && !file.exists(place)) file.rename(part, place)
+    write_new(charToRaw(paste0(lines, "\n", collapse = "")), place)
   }
-  known <- tryCatch(suppressWarnings(readLines(place, warn = FALSE, encoding = "UTF-8")), error = function(e) {
-    stop_at("store", place, " can't be read")
-  })
+  known <- read_beside(place, function(place) readLines(place, warn = FALSE, encoding = "UTF-8"))
   if (!identical(known, lines)) {
     own <- words_after(known, "hypotheses")
     stop_at("store", basename(store), " was made for a case with ",
       if (identical(own, words_after(lines, "hypotheses"))) difference_of(known, lines) else paste("hypotheses", paste(own, collapse = " ")))
   }
+}
+
+# Stops if the file of looks was made for other labels: names that are made of labels can be those of others. Labels that are the
+# program's names are in the case.
+hold_labels <- function(graph, store) {
+  if (identical(graph$labels, graph$names)) return(invisible())
+  place <- paste0(store, ".labels")
+  bytes <- bytes_of_labels(graph$labels)
+  if (!file.exists(place)) write_new(bytes, place)
+  known <- read_beside(place, function(place) readBin(place, "raw", file.size(place)))
+  if (!identical(known, bytes)) stop_at("store", basename(store), " was made for the hypotheses ", listed(quoted(labels_in(known)), 16L))
+}
+
+# Labels as a file has them, each ended by a byte 0.
+bytes_of_labels <- function(labels) unlist(lapply(enc2utf8(labels), function(label) c(charToRaw(label), as.raw(0))))
+
+labels_in <- function(bytes) {
+  texts <- strsplit(rawToChar(replace(bytes, bytes == 0, charToRaw("\n"))), "\n", fixed = TRUE)[[1]]
+  Encoding(texts) <- "UTF-8"
+  texts
+}
+
+# Reads a file beside that of the looks.
+read_beside <- function(place, read) {
+  tryCatch(suppressWarnings(read(place)), error = function(e) stop_at("store", place, " can't be read"))
+}
+
+# Writes a file that is not there, as a whole or not at all. One that is there meanwhile stays where files can have links; elsewhere it is
+# replaced.
+write_new <- function(bytes, place) {
+  part <- tempfile("welungad-", dirname(place))
+  on.exit(unlink(part))
+  write_whole(bytes, part)
+  # not every file system has links
+  linked <- suppressWarnings(file.link(part, place))
+  if (!linked && !file.exists(place)) file.rename(part, place)
 }
 
 # The first line in which the case of a file is another one.

@@ -68,13 +68,18 @@ graph_rejections <- function(x, exact = FALSE) {
   table
 }
 
-# The rows of some hypotheses, by label or position.
-`[.welungad_test` <- function(x, i, ...) {
+# The rows of some hypotheses, by label or position, and some of their columns.
+`[.welungad_test` <- function(x, i, j, ...) {
   table <- as.data.frame(x)
   row.names(table) <- table$hypothesis
-  at <- positions_of(x$graph, i, "i")
-  table[at, ]
+  at <- if (missing(i)) seq_along(x$graph$names) else positions_of(x$graph, i, "i")
+  if (missing(j)) table[at, ] else table[at, j]
 }
+
+# The rows of the first and the last hypotheses.
+head.welungad_test <- function(x, n = 6L, ...) utils::head(x[x$graph$labels], n)
+
+tail.welungad_test <- function(x, n = 6L, ...) utils::tail(x[x$graph$labels], n)
 
 format.welungad_test <- function(x, ...) {
   paste0("Graphical test of ", count_of_hypotheses(length(x$graph$names)), " at level ", level_text(x$alpha),

@@ -7,6 +7,12 @@ whole_text <- function(x) sprintf("%.0f", x)
 # Doubles with at most so many digits, for display.
 decimal_text <- function(x, digits) with_point(sprintf("%.*g", as.integer(digits), x))
 
+# A double for a message: with 15 digits, or with 17 if those are of another double.
+double_text <- function(x) {
+  text <- decimal_text(x, 15)
+  if (isTRUE(as.numeric(text) != x)) decimal_text(x, 17) else text
+}
+
 # Texts with a point in place of what the user's locale has, as a comma.
 with_point <- function(texts) {
   own <- Sys.localeconv()[["decimal_point"]]
@@ -64,7 +70,7 @@ whole_numbers <- function(x, what, names = NULL) {
   if (!is.atomic(x) && !is.list(x)) stop_at(what, "a whole number is needed, and not an object of class ", class(x)[1])
   wrong <- which(!is_whole(x))
   if (length(wrong)) {
-    given <- if (is_number(x)) decimal_text(x[wrong[1]], 15) else quoted(as.character(x[wrong[1]]))
+    given <- if (is_number(x)) double_text(x[wrong[1]]) else quoted(as.character(x[wrong[1]]))
     stop_at(what, place_text(wrong[1], names), " is ", given, if (is.factor(x)) " of a factor", ", which is not a whole number")
   }
   as.integer(x)
@@ -84,7 +90,7 @@ write_table <- function(texts) {
   all <- rbind(colnames(texts), unname(texts))
   all[is.na(all)] <- ""
   columns <- lapply(seq_len(ncol(all)), function(j) {
-    formatC(all[, j], width = max(nchar(all[, j])), flag = if (j == 1) "-" else "")
+    formatC(all[, j], width = max(nchar(all[, j], "width")), flag = if (j == 1) "-" else "")
   })
   cat(sub(" +$", "", paste0("  ", do.call(paste, c(columns, sep = "  ")))), sep = "\n")
 }

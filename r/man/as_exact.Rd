@@ -39,9 +39,10 @@ up to 1,000, or 8 to 17 digits and denominators up to 10,000. R drops zeros at t
 \value{
 An object of class \code{welungad_exact} with the parts \code{given}, \code{read} (the text that is handed to the program) and
 \code{rule}. It keeps names, and the rows and columns of a matrix. \code{[}, \code{[[}, \code{c}, \code{rep}, \code{names},
-\code{unname} and \code{is.na} work as for other vectors. So do assignments such as \code{x["H1"] <- 1 / 3}, by which the new number is
-read as any other; its number of elements has to be 1, or that of the places. \code{as.character} and \code{format} give the texts,
-\code{summary} gives how many numbers were read by each rule, and \code{as.data.frame} a table.
+\code{unname}, \code{dim}, \code{t}, \code{is.na}, \code{sort} and \code{unique} work as for other vectors. So do assignments such as
+\code{x["H1"] <- 1 / 3}, by which the new number is read as any other; its number of elements has to be 1, or that of the places.
+Comparisons are exact, and arithmetic is an error. \code{as.character} and \code{format} give the texts, \code{summary} gives how many
+numbers were read by each rule, and \code{as.data.frame} a table.
 }
 \seealso{
 \code{\link{graph_create}}, which takes such numbers.

@@ -15,6 +15,8 @@ as_graph(x)
 Weights and edges are read as \code{\link{as_exact}} says. Edges of gMCP that are texts with epsilon stay as they are. A graph
 whose weights or rows sum to more than 1, as R's doubles are read, is refused: see \code{total} of \code{\link{as_exact}}.
 
+The deleted hypotheses of an \code{updated_graph} are left out.
+
 A graph of gMCP in which a hypothesis is marked as rejected is an error, since here it would be a hypothesis that is not rejected and has
 the weight 0.
 }

@@ -16,7 +16,7 @@ bound_of(x, hypotheses)
   \item{p}{the p-values: doubles, texts, or fractions of gmp, read as \code{\link{as_exact}} says. They are put in the order of the hypotheses by their names, if they have names: a vector, one row or column of a matrix or a data frame, or the columns \code{hypothesis} and \code{p} of a data frame. A double that no decimal of up to 30 places rounds to is rounded up to a multiple of 10^-30, with a message of class \code{welungad_rounded}.}
   \item{alpha}{the level: above 0, at most 1, a fraction of whole numbers up to 10,000, such as 0.025 or 0.00625.}
   \item{x}{a result of \code{graph_bounds} or \code{graph_simes}.}
-  \item{hypotheses}{a set of hypotheses, by name, label or position.}
+  \item{hypotheses}{a set of hypotheses, as for \code{delete} of \code{\link{graph_update}}.}
 }
 \details{
 Nothing is claimed of when Simes' test is valid under dependence. It rejects at least what \code{\link{graph_test}} rejects, and may reject more.

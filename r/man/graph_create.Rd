@@ -26,7 +26,7 @@ There is no test that uses the correlation of the test statistics (parametric te
 A refusal of the program is a condition of class \code{welungad_refusal}; see \code{\link{welungad_run}}.
 }
 \value{
-An object of class \code{welungad_graph}: \code{names}, \code{labels}, and \code{components}, each with its \code{share}, its \code{weights} and its \code{edges} as exact texts. A graph whose \code{components} are changed is decided as it then is, and its weights and edges have to stay in the order of its hypotheses. It has methods for \code{print}, \code{plot}, \code{format}, \code{summary} and \code{as.data.frame}.
+An object of class \code{welungad_graph}: \code{names}, \code{labels}, and \code{components}, each with its \code{share}, its \code{weights} and its \code{edges} as exact texts. A graph whose \code{components} are changed is decided as it then is, and its weights and edges have to stay in the order of its hypotheses. A part that is added by hand is an error, since no call would read it. It has methods for \code{print}, \code{plot}, \code{format}, \code{summary} and \code{as.data.frame}.
 }
 \references{
 Bretz, F., Maurer, W., Brannath, W. and Posch, M. (2009) A graphical approach to sequentially rejective multiple test procedures.

@@ -10,7 +10,7 @@ graph_stages(graph, levels, looks = NULL, alpha = 0.025, at = 1)
 \arguments{
   \item{graph}{a graph, as \code{\link{graph_create}}, \code{\link{graph_entangle}}, \code{\link{graph_catalogue}} or \code{\link{graph_read}} makes it.}
   \item{levels}{a list with the levels of each hypothesis at the stages, or a matrix or a data frame whose rows or whose columns, but not both, are named by the hypotheses. Levels are given from the first stage to the last, and names such as \code{stage 2} before \code{stage 1} are an error. A vector has the levels that hold while the weight of the hypothesis is \code{at}; at another weight they are in proportion. A matrix is a table: each row has levels, and its row name is the weight from which it counts.}
-  \item{looks}{a data frame with a row for each p-value in the order in which they arrive, with the columns \code{hypothesis} (a name or a label), \code{stage} (a whole number) and \code{p}.}
+  \item{looks}{a data frame with a row for each p-value in the order in which they arrive, with the columns \code{hypothesis} (a name or a label), \code{stage} (a whole number) and \code{p}. If \code{p} or the rows have the names of hypotheses, they have to be those beside them.}
   \item{alpha}{the level: above 0, at most 1, a fraction of whole numbers up to 10,000, such as 0.025 or 0.00625.}
   \item{at}{the weight at which the vectors of levels hold, above 0 and at most 1: one number, or one for each hypothesis.}
 }

@@ -16,7 +16,8 @@ graph_study(case, store, looks = NULL)
 \details{
 The file has positions of hypotheses, and neither names nor levels. So the first call writes the canonical text of the case into
 the file \code{STORE.case}, and a later call with another text is an error. A file of looks that has no such file beside it is
-refused.
+refused. Labels that are not the program's names are kept in the file \code{STORE.labels}, and a later call with other labels is an
+error, since the names that the package makes of them can be the same.
 
 A look is kept once all rejections that it allows are made. A look that is known, whose stage does not exist, or whose p-value is
 not from 0 to 1 is not taken, and changes nothing.

@@ -11,7 +11,7 @@ graph_steps(x)
 }
 \arguments{
   \item{graph}{a graph, as \code{\link{graph_create}}, \code{\link{graph_entangle}}, \code{\link{graph_catalogue}} or \code{\link{graph_read}} makes it.}
-  \item{delete}{the hypotheses that are removed, in this order: by name, label or position, or a logical vector.}
+  \item{delete}{the hypotheses that are removed, in this order: by name, label or position, or a logical vector. A number that is the name of a hypothesis at another position is an error.}
   \item{x}{a result of \code{\link{graph_test}}.}
 }
 \details{

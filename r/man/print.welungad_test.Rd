@@ -39,7 +39,7 @@ Prints results, and gives them as data frames, as summaries, and in parts.
 \method{summary}{welungad_closure}(object, ...)
 \method{summary}{welungad_bounds}(object, ...)
 \method{summary}{welungad_stages}(object, ...)
-\method{[}{welungad_test}(x, i, ...)
+\method{[}{welungad_test}(x, i, j, ...)
 \method{[}{welungad_closure}(x, i, ...)
 \method{[}{welungad_bounds}(x, i, ...)
 }
@@ -50,6 +50,7 @@ Prints results, and gives them as data frames, as summaries, and in parts.
   \item{most}{how many sets are shown.}
   \item{all}{whether all graphs are shown and not the last one alone.}
   \item{i}{hypotheses, by label, name or position, for a decision; sets, by their place, for the others.}
+  \item{j}{columns of the table of a decision; all if absent.}
   \item{...}{unused.}
 }
 \details{
@@ -70,7 +71,7 @@ rejected intersections of each size; for bounds, a table that counts the sets by
 rejections.
 
 \code{[} returns, for a decision, the rows of some hypotheses in a data frame; for a closed test and for bounds, an object of the same
-class with some of the sets.
+class with some of the sets. \code{head} and \code{tail} return the first and the last of them.
 }
 \seealso{
 \code{\link{plot.welungad_graph}} for pictures.

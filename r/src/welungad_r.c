@@ -70,12 +70,12 @@ static SEXP welungad_call(SEXP words, SEXP kase, SEXP proof) {
   const uint8_t *w = joined(words, &words_len), *c = bytes(kase, &case_len), *p = bytes(proof, &proof_len);
   R_CheckStack2(STACK);
   uint8_t status = welungad_run(w, words_len, c, case_len, p, proof_len, out, room, &needed);
-  while (status == WELUNGAD_ROOM) {
+  while (status == WELUNGAD_ROOM && needed > room) {
     room = needed;
     out = (uint8_t *)R_alloc(room, 1);
     status = welungad_run(w, words_len, c, case_len, p, proof_len, out, room, &needed);
   }
-  if (needed > room) error("the C library gives no whole text");
+  if (status == WELUNGAD_ROOM || needed > room) error("the C library gives no whole text");
   SEXP result = PROTECT(answer(status, out, needed));
   vmaxset(top);
   UNPROTECT(1);

@@ -108,6 +108,13 @@ test_that("a program that a signal ends is not taken for its status", {
   })
 })
 
+test_that("a way that the option names and that is not there is named", {
+  with_program("/nowhere/welungad", expect_error(welungad_run("help"), "^the program welungad is not found: let the environment variable WELUNGAD"))
+  if (!"library" %in% welungad_ways()) {
+    with_options(list(welungad.way = "library"), expect_error(welungad_run("help"), "the option welungad.way is \"library\"", fixed = TRUE))
+  }
+})
+
 test_that("the file of the proof is the word that names it", {
   expect_equal(welungad:::file_word(c("check", "x")), 2)
   expect_equal(welungad:::file_word(c("check", "--form", "csv", "--alpha=0.05", "x")), 5)

@@ -8,6 +8,15 @@ test_that("graphs of graphicalMCP are taken by their fields", {
     expect_equal(as_graph(theirs)$components, diabetes()$components)
     updated <- structure(list(initial_graph = NULL, updated_graph = theirs, deleted = "H5"), class = "updated_graph")
     expect_equal(as_graph(updated)$components, diabetes()$components)
+    # deleted hypotheses may stay, without weight and edges
+    kept <- graph_update(diabetes(), "H2")$updated_graph$components[[1]]
+    all <- list(hypotheses = stats::setNames(rep("0", 4), names), transitions = structure(rep("0", 16), dim = c(4L, 4L), dimnames = list(names, names)))
+    all$hypotheses[c(1, 3, 4)] <- kept$weights
+    all$transitions[c(1, 3, 4), c(1, 3, 4)] <- kept$edges
+    for (deleted in list("H2", 2L, c(FALSE, TRUE, FALSE, FALSE))) {
+      updated <- structure(list(initial_graph = theirs, updated_graph = structure(all, class = "initial_graph"), deleted = deleted), class = "updated_graph")
+      expect_equal(as_graph(updated)$components[[1]], kept)
+    }
     expect_error(as_graph(structure(list(hypotheses = 1), class = "initial_graph")), "x: the object has no part \"transitions\"", fixed = TRUE)
   })
 })

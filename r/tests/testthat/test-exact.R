@@ -27,6 +27,8 @@ test_that("numbers that are put together have the names that R gives", {
     expect_identical(names(do.call(c, lapply(parts, as_exact))), names(do.call(c, parts)))
   }
   expect_identical(names(c(one)), NULL)
+  expect_identical(c(one, NULL)$read, "9/10")
+  expect_identical(names(c(a = one, b = NULL, c = one)), c("a", "c"))
   expect_identical(c(a = one, b = "1/3")$read, c("9/10", "1/3"))
   each_way(function(way) {
     expect_equal(graph_test(pair(), c(H2 = as_exact(0.001), H1 = one))$rejected, c(H1 = FALSE, H2 = TRUE))
@@ -101,6 +103,67 @@ test_that("single numbers, rows, columns and missing ones are taken as of other 
   each_way(function(way) {
     P <- as_exact(matrix(c(0.001, 0.9, 0.9, 0.001), 2, dimnames = list(NULL, c("H1", "H2"))))
     expect_equal(unname(graph_test_many(pair(), P[2, , drop = FALSE])), matrix(c(FALSE, TRUE), 1))
+  })
+})
+
+test_that("rows and columns of numbers are given, turned and named as of other vectors", {
+  x <- as_exact(c(a = 0, b = 1 / 2, c = 1 / 3, d = 0))
+  m <- x
+  dim(m) <- c(2, 2)
+  expect_identical(unclass(m), unclass(as_exact(matrix(c(0, 1 / 2, 1 / 3, 0), 2))))
+  expect_error(dim(x) <- c(2, 3))
+  rownames(m) <- c("r", "s")
+  expect_identical(dimnames(m), list(c("r", "s"), NULL))
+  dimnames(m) <- list(1:2, c("t", "u"))
+  expect_identical(dimnames(m), list(c("1", "2"), c("t", "u")))
+  for (wrong in list(list("r", NULL), list(c("r", "s")), "r")) expect_error(dimnames(m) <- wrong)
+  expect_error(dimnames(x) <- list(letters[1:4]))
+  expect_identical(unclass(t(m)), unclass(as_exact(t(matrix(c(0, 1 / 2, 1 / 3, 0), 2, dimnames = list(1:2, c("t", "u")))))))
+  expect_identical(dimnames(t(x)), list(NULL, c("a", "b", "c", "d")))
+  # whose elements are six, as the parts of the object
+  six <- as_exact(1:6 / 10)
+  dim(six) <- c(2, 3)
+  expect_identical(dim(six), c(2L, 3L))
+  dim(six) <- NULL
+  expect_identical(unclass(six), unclass(as_exact(1:6 / 10)))
+  length(x) <- 2
+  expect_identical(as.character(x), c(a = "0", b = "1/2"))
+  each_way(function(way) {
+    edges <- as_exact(c(0, 1, 1, 0))
+    dim(edges) <- c(2, 2)
+    expect_equal(graph_create(c(1 / 2, 1 / 2), edges)$components, pair()$components)
+  })
+})
+
+test_that("numbers are compared exactly, and not computed with", {
+  x <- as_exact(c(a = "1/3", b = "0.25", c = NA, d = "1-\\epsilon"))
+  expect_identical(x == 1 / 3, c(a = TRUE, b = FALSE, c = NA, d = NA))
+  expect_identical(x == "1/4", c(a = FALSE, b = TRUE, c = NA, d = NA))
+  expect_identical(0.3 <= as_exact(c("0.2999999999999999999", "0.3")), c(FALSE, TRUE))
+  expect_identical(as_exact(matrix(0:1, 1)) < as_exact(1), matrix(c(TRUE, FALSE), 1))
+  expect_identical(as_exact(numeric()) < 1, logical())
+  expect_error(x < 1:3, "^<: 3 given for 4 numbers$")
+  for (call in list(function() x + 1, function() -x, function() !x)) expect_error(call(), "are compared, and not computed with")
+  expect_equal(as.character(sort(as_exact(c(a = "1/3", b = "0.3", c = "0.33333333333333333333")))), c(b = "0.3", c = "0.33333333333333333333", a = "1/3"))
+  y <- as_exact(c("1/2", "0.5", "x", NA, "x", "2/4", "1/3", NA))
+  expect_identical(duplicated(y), c(FALSE, TRUE, FALSE, FALSE, TRUE, TRUE, FALSE, TRUE))
+  expect_identical(unique(y)$read, c("1/2", "x", NA, "1/3"))
+})
+
+test_that("numbers are a column of a data frame, and have their names in one of their own", {
+  p <- as_exact(c(H2 = 0.001, H1 = 0.9))
+  frame <- data.frame(n = 1:2, p = p)
+  expect_identical(unclass(frame$p), unclass(unname(p)))
+  expect_identical(row.names(frame), c("H2", "H1"))
+  expect_identical(row.names(as.data.frame(p)), c("H2", "H1"))
+  expect_identical(row.names(as.data.frame(as_exact(matrix(0:1, 1, dimnames = list("r", c("s", "t")))))), c("r, s", "r, t"))
+  expect_identical(as.data.frame(c(p, p))$read, rep(p$read, 2))
+  each_way(function(way) {
+    for (form in list(data.frame(p = p), data.frame(hypothesis = names(p), p = unname(p)), cbind(data.frame(hypothesis = names(p)), p = unname(p)))) {
+      expect_equal(graph_test(pair(), form)$exact$p, c("9/10", "1/1000"))
+    }
+    looks <- data.frame(hypothesis = names(p), stage = 1, p = unname(p))
+    expect_equal(graph_stages(pair(), list(0.01, 0.01), looks)$looks$p, c("1/1000", "9/10"))
   })
 })
 

@@ -103,6 +103,16 @@ vector_forms <- list(
   row = function(text, double, labels, order) matrix(double[order], 1, dimnames = list(NULL, labels[order])),
   column = function(text, double, labels, order) matrix(text[order], ncol = 1, dimnames = list(labels[order], "value")),
   plain_column = function(text, double, labels, order) matrix(double, ncol = 1),
+  named_row = function(text, double, labels, order) {
+    x <- matrix(double[order], 1)
+    names(x) <- labels[order]
+    x
+  },
+  named_column = function(text, double, labels, order) {
+    structure(list(value = stats::setNames(double, labels)[order]), row.names = .set_row_names(length(labels)), class = c("tbl_df", "tbl", "data.frame"))
+  },
+  exact_frame = function(text, double, labels, order) data.frame(value = as_exact(stats::setNames(text, labels)[order])),
+  zeros_before = function(text, double, labels, order) stats::setNames(paste0("00", text), labels)[order],
   integer64 = function(text, double, labels, order) {
     if (all(double %in% 0:1)) stats::setNames(whole_bits(double[order]), labels[order]) else double
   }
@@ -111,6 +121,16 @@ vector_forms <- list(
 square_forms <- list(
   plain = function(text, double, labels, order) double,
   text = function(text, double, labels, order) text,
+  zeros_before = function(text, double, labels, order) array(paste0("00", text), dim(text)),
+  named_columns = function(text, double, labels, order) {
+    columns <- lapply(order, function(j) stats::setNames(double[order, j], labels[order]))
+    structure(columns, names = labels[order], row.names = .set_row_names(length(labels)), class = c("tbl_df", "tbl", "data.frame"))
+  },
+  exact_dim = function(text, double, labels, order) {
+    x <- as_exact(as.vector(double))
+    dim(x) <- dim(double)
+    x
+  },
   named = function(text, double, labels, order) structure(double, dimnames = list(labels, labels)),
   shuffled = function(text, double, labels, order) structure(double, dimnames = list(labels, labels))[order, rev(order)],
   shuffled_text = function(text, double, labels, order) structure(text, dimnames = list(labels, labels))[rev(order), order],
@@ -142,6 +162,7 @@ damages <- list(
     names(x)[1] <- ""
     x
   },
+  beside_others = function(x, labels) data.frame(hypothesis = rev(names(x)), value = x, stringsAsFactors = FALSE),
   too_many = function(x, labels) c(x, other = x[[1]]),
   too_few = function(x, labels) x[-1]
 )

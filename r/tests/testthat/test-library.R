@@ -50,7 +50,8 @@ shim_of <- local({
 interface <- c("#include <stdio.h>", "#include <stdlib.h>", "uint32_t welungad_interface(void) { return (uint32_t)atoi(getenv(\"STAND_IN\")); }")
 
 # Answers by the first letter of the words: with a text of as many letters as the case says, which fill what they get of the room; with
-# how much room there is; with two texts that need more and more of it, and then out of memory; with a part of a text.
+# how much room there is; with two texts that need more and more of it, and then out of memory; with a part of a text; with no room for as
+# much as there is.
 runs <- c(
   "uint8_t welungad_run(const uint8_t *words, size_t words_len, const uint8_t *kase, size_t kase_len, const uint8_t *proof,",
   "                     size_t proof_len, uint8_t *out, size_t out_len, size_t *needed) {",
@@ -69,6 +70,7 @@ runs <- c(
   "      memcpy(out, \"no memory\\n\", 10);",
   "      return 8;",
   "    case 'p': memset(out, 'a', out_len); *needed = out_len + 1; return 0;",
+  "    case 'e': *needed = out_len; return 7;",
   "    default: *needed = 0; return 0;",
   "  }",
   "}"
@@ -144,7 +146,7 @@ test_that("a text is taken whole, whatever its length", {
     }
     expect_equal(run_by(shim, "room")$text, "65536") # as much as there is on the stack
     expect_equal(run_by(shim, "more"), list(status = 8L, text = "no memory\n"))
-    expect_error(run_by(shim, "part"), "the C library gives no whole text", fixed = TRUE)
+    for (word in c("part", "endless")) expect_error(run_by(shim, word), "the C library gives no whole text", fixed = TRUE)
   })
 })
 

@@ -105,6 +105,12 @@ test_that("numbers without a value are refused", {
   }
   expect_error(as_exact(factor("a")), "doubles, integers, texts")
   expect_error(as_exact(TRUE), "doubles, integers, texts")
+  # half a percent, as the package units has it
+  percent <- structure(0.5, units = structure(list(numerator = "%", denominator = character()), class = "symbolic_units"), class = "units")
+  expect_error(as_exact(percent), "^x: numbers are doubles, .* and not of class units$")
+  # numbers that are held otherwise, and can be none of R's doubles
+  registerS3method("is.numeric", "held_otherwise", function(x) TRUE)
+  expect_error(as_exact(structure(list(0.5), class = "held_otherwise")), "^x: numbers are doubles, .* and not of class held_otherwise$")
 })
 
 test_that("the level that is not given is the one that is read", {
@@ -142,6 +148,9 @@ test_that("numerals have the values that FORMATS says", {
   expect_equal(value("5."), "5")
   expect_equal(value("2.5e-2"), "1/40")
   expect_equal(value("4/160"), "1/40")
+  expect_equal(value("010/020"), "1/2")
+  expect_equal(value("-08/010"), "-4/5")
+  expect_true(all(welungad:::fraction(c("020/1000", "007", "-010/08")) == gmp::as.bigq(c(1, 7, -5), c(50, 1, 4))))
   expect_equal(value("1e-00001"), "1/10")
   expect_equal(value("0e99999999999"), "0")
   for (text in c("", ".", "1/0", "1e", "1/2/3", "a", "1-\\epsilon", "--1", "1 2", "1e99999999999")) {

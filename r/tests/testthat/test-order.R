@@ -53,10 +53,52 @@ test_that("p-values with names are put in order, whatever their class", {
     names(fractions) <- c(NA, "H1")
     expect_error(graph_test(pair(), fractions), "p: the first has no name, and others have one", fixed = TRUE)
     expect_equal(graph_test(pair(), rev(gmp::as.bigq(c(1, 9), c(1000, 10))))$exact$p, c("9/10", "1/1000"))
+    for (none in list(c("", ""), c(NA, ""), NA_character_)) {
+      expect_equal(graph_test(pair(), structure(c(0.001, 0.9), names = rep_len(none, 2)))$exact$p, c("1/1000", "9/10"))
+    }
     expect_error(graph_test(pair(), c(H1 = 0.1)), "p: nothing is given for \"H2\"", fixed = TRUE)
     expect_error(graph_test(pair(), matrix(0.1, 2, 2)), "p: a vector is needed, and not a table of 2 by 2")
     expect_error(graph_test(pair(), data.frame(a = 1:2, b = 1:2)), "p: a data frame has one row")
     expect_equal(refusal_of(graph_test(pair(), c(0.1, 0.2, 0.3)))$line, "malformed: case: p count 3")
+  })
+})
+
+# A data frame of two rows whose columns keep their names, as those of a tibble do.
+tibble_of_two <- function(...) structure(list(...), row.names = .set_row_names(2L), class = c("tbl_df", "tbl", "data.frame"))
+
+test_that("the names of the elements of a row or a column, and of the numbers of a data frame, are kept", {
+  each_way(function(way) {
+    p <- c(H2 = 0.001, H1 = 0.9)
+    row <- matrix(p, 1)
+    column <- matrix(p, 2)
+    exact <- as_exact(column)
+    names(row) <- names(column) <- names(exact) <- names(p)
+    for (form in list(row, column, exact, tibble_of_two(p = p), tibble_of_two(p = as_exact(p)))) {
+      expect_equal(graph_test(pair(), form)$exact$p, c("9/10", "1/1000"), info = class(form)[1])
+    }
+    single <- "name rows and columns, since names of single elements say nothing of them"
+    expect_error(graph_test_many(pair(), row), paste0("^P: ", single))
+    edges <- matrix(c(0, 1, 1, 0), 2)
+    names(edges) <- c("H2", "H1")
+    expect_error(graph_create(c(H1 = 1, H2 = 0), edges), paste0("^transitions: ", single))
+    made <- graph_create(c(H1 = 1, H2 = 0), tibble_of_two(H1 = c(H2 = "1/3", H1 = "0"), H2 = c(H2 = 0, H1 = 1)))
+    expect_equal(made$components, graph_create(c(H1 = 1, H2 = 0), rbind(c("0", "1"), c("1/3", "0")))$components)
+    wrong <- tibble_of_two(H1 = c(H2 = "1/3", H1 = "0"), H2 = c(H1 = 1, H2 = 0))
+    expect_error(graph_create(c(H1 = 1, H2 = 0), wrong), "^transitions: the columns have different names for their rows$")
+  })
+})
+
+test_that("numbers beside the names of other hypotheses are an error", {
+  each_way(function(way) {
+    fault <- ": the numbers have the names H2, H1, and the column hypothesis has H1, H2$"
+    p <- c(H2 = 0.001, H1 = 0.9)
+    for (wrong in list(data.frame(hypothesis = c("H1", "H2"), p = p), tibble_of_two(hypothesis = c("H1", "H2"), p = p))) {
+      expect_error(graph_test(pair(), wrong), paste0("^p", fault))
+      wrong$stage <- 1
+      expect_error(graph_stages(pair(), list(0.01, 0.01), wrong), paste0("^looks", fault))
+      wrong$hypothesis <- c("H2", "H1")
+      expect_equal(graph_stages(pair(), list(0.01, 0.01), wrong)$looks$p, c("1/1000", "9/10"))
+    }
   })
 })
 
@@ -124,6 +166,7 @@ test_that("the stages of looks are whole numbers", {
     for (stage in list(c(2, 3), c(2L, 3L), c("2", "3"))) expect_equal(graph_stages(pair(), levels, looks(stage))$looks$stage, 2:3)
     expect_error(graph_stages(pair(), levels, looks(factor(c("2", "3")))), "looks: stage: the first is \"2\" of a factor, which is not a whole number", fixed = TRUE)
     expect_error(graph_stages(pair(), levels, looks(c(1, 1.9))), "looks: stage: the second is 1.9, which is not a whole number", fixed = TRUE)
+    expect_error(graph_stages(pair(), levels, looks(c(1, 2 + 2^-51))), "looks: stage: the second is 2.0000000000000004, which is not a whole number", fixed = TRUE)
     expect_error(graph_stages(pair(), levels, looks(c(1, NA))), "looks: stage: the second is NA")
     expect_error(graph_stages(pair(), levels, data.frame(hypothesis = 1:2, stage = 1, p = 0.1)), "looks: the column hypothesis has numbers")
     expect_error(graph_stages(pair(), levels, data.frame(hypothesis = "H3", stage = 1, p = 0.1)), "looks: no hypothesis has the name \"H3\"", fixed = TRUE)
@@ -132,6 +175,27 @@ test_that("the stages of looks are whole numbers", {
     expect_equal(graph_stages(pair(), levels, codes)$looks$hypothesis, c("H2", "H1"))
     twice <- cbind(looks(1), data.frame(p = 0.001))
     expect_error(graph_stages(pair(), levels, twice), "looks: the column p occurs twice", fixed = TRUE)
+  })
+})
+
+test_that("a list of factors has their texts", {
+  each_way(function(way) {
+    frame <- data.frame(p = c(0.001, 0.9))
+    frame$hypothesis <- list(factor("2", c("2", "1")), factor("1", c("2", "1")))
+    expect_equal(graph_test(pair(c("1", "2")), frame)$rejected, c("1" = FALSE, "2" = TRUE))
+    frame$stage <- 1
+    expect_equal(graph_stages(pair(c("1", "2")), list(0.01, 0.01), frame)$looks$hypothesis, c("2", "1"))
+  })
+})
+
+test_that("a number that is the name of a hypothesis at another position is an error", {
+  each_way(function(way) {
+    graph <- pair(c("2", "1"))
+    expect_error(graph_update(graph, 1), "^delete: 1 is the name of another hypothesis: give names as texts$")
+    expect_error(bound_of(graph_bounds(graph, c(0.001, 0.9)), 2), "^hypotheses: 2 is the name of another hypothesis")
+    expect_equal(graph_update(graph, "1")$deleted, "1")
+    expect_equal(graph_update(pair(c("1", "2")), 2)$deleted, "2")
+    expect_error(graph_update(graph_create(c(1, 0), matrix(0, 2, 2), hyp_names = c("2", "1"), labels = c("low", "high")), 1), "^delete: 1 is ")
   })
 })
 
@@ -186,6 +250,7 @@ test_that("a graph that was changed is decided as it is", {
     turned <- graph
     turned$components[[1]]$weights <- c(H2 = "1", H1 = "0")
     expect_error(graph_test(turned, c(0.02, 0.9)), "^graph: its weights and edges have the names H2, H1, and its hypotheses H1, H2$")
+    for (show in list(print, summary, as.data.frame, plot)) expect_error(show(turned), "^graph: its weights and edges have the names H2, H1")
     turned <- graph
     turned$components[[1]]$edges <- turned$components[[1]]$edges[, 2:1]
     expect_error(graph_canon(turned), "graph: its weights and edges have the names H2, H1", fixed = TRUE)
@@ -195,9 +260,55 @@ test_that("a graph that was changed is decided as it is", {
     # a double that is assigned is a text of 15 digits
     graph$components[[1]]$weights["H1"] <- 1 / 3
     expect_warning(graph_canon(graph), "graph: \"0.333333333333333\" is what R writes for 1/3", fixed = TRUE, class = "welungad_written")
+    expect_warning(graph_entangle(graph, shares = 1), "graph: \"0.333333333333333\" is what R writes for 1/3", fixed = TRUE)
     graph$components[[1]]$weights <- unname(graph$components[[1]]$weights)
     graph$components[[1]]$weights[1] <- "1/3"
     expect_match(graph_canon(graph)[3], "weights 1/3 0")
+  })
+})
+
+test_that("what no call would read of a graph that was changed is an error", {
+  each_way(function(way) {
+    fault <- "^graph: a graph has the parts .*, and nothing reads a part \"%s\"$"
+    for (part in c("hypotheses", "transitions", "weights", "Components")) {
+      graph <- pair()
+      graph[[part]] <- c(H1 = 1, H2 = 0)
+      expect_error(graph_test(graph, c(0.02, 0.9)), sprintf(fault, part))
+    }
+    # R takes the part by its beginning, and makes a new one
+    graph <- pair()
+    graph$component[[1]]$weights["H1"] <- "1"
+    for (call in list(graph_canon, function(x) graph_stages(x, list(0.01, 0.01)), function(x) graph_entangle(x, shares = 1))) {
+      expect_error(call(graph), sprintf(fault, "component"))
+    }
+    graph <- pair()
+    graph$components[[1]]$weight <- c("1", "0")
+    expect_error(graph_canon(graph), "^graph: a component of a graph has the parts .*, and nothing reads a part \"weight\"$")
+    for (edges in list(matrix("0", 1, 1), matrix("0", 3, 3), "0")) {
+      graph <- pair()
+      graph$components[[1]]$edges <- edges
+      expect_error(graph_canon(graph), "^graph: its edges need a row and a column for each hypothesis$")
+    }
+    for (weights in list(c(0.1 + 0.2, 0.5), as_exact(c(1 / 3, 1 / 3)), gmp::as.bigq(1, 3:4), list("1", "0"), NULL)) {
+      graph <- pair()
+      graph$components[[1]]["weights"] <- list(weights)
+      expect_error(graph_canon(graph), "^graph: its shares, weights and edges are texts, as as.character[(]as_exact[(]x[)][)] gives them")
+    }
+    graph$components[[1]]$weights <- as.character(as_exact(c(H1 = 0.1 + 0.2, H2 = 1 / 3)))
+    expect_match(graph_canon(graph)[3], "weights 7500000000000001/25000000000000000 1/3", fixed = TRUE)
+    graph <- pair()
+    for (labels in list(c("A", "A"), c("A", NA), c("H2", "A"))) {
+      graph$labels <- labels
+      expect_error(graph_test(graph, c(0.02, 0.9)), "^labels: ")
+    }
+    graph$labels <- "A"
+    expect_error(graph_test(graph, c(0.02, 0.9)), "^graph: one label is needed for each hypothesis$")
+    graph$labels <- c("first", "second")
+    expect_equal(graph_test(graph, c(second = 0.9, first = 0.001))$rejected, c(first = TRUE, second = FALSE))
+    relabelled <- pair(c("low dose", "high dose"))
+    relabelled$labels <- c("low", "high")
+    expect_output(print(relabelled), "low +1/2")
+    expect_equal(graph_test(relabelled, c(high = 0.9, low = 0.001))$rejected, c(low = TRUE, high = FALSE))
   })
 })
 
@@ -208,7 +319,8 @@ test_that("names and labels are texts", {
       expect_error(graph_create(c(1 / 2, 1 / 2), edges, hyp_names = wrong), "^hyp_names: texts are needed, and not an object of class ")
       expect_error(graph_create(c(1 / 2, 1 / 2), edges, labels = wrong), "^labels: texts are needed, and not an object of class ")
     }
-    for (right in list(c("A", "B"), factor(c("A", "B")), list("A", "B"), c(A = "A", B = "B"))) {
+    factors <- list(factor("A", c("B", "A")), factor("B", c("B", "A")))
+    for (right in list(c("A", "B"), factor(c("A", "B")), list("A", "B"), factors, c(A = "A", B = "B"))) {
       expect_equal(graph_create(c(1 / 2, 1 / 2), edges, hyp_names = right)$labels, c("A", "B"))
     }
   })

@@ -84,6 +84,17 @@ test_that("labels are texts on the page, whatever they are", {
   })
 })
 
+test_that("a title keeps its letters in a locale that is not UTF-8", {
+  with_page(function(file) {
+    script <- tempfile(fileext = ".R")
+    writeLines(c("library(welungad)", "graph <- graph_create(c(A = 1), matrix(0, 1, 1))",
+      "invisible(graph_report(graph, commandArgs(TRUE), p = 0.01, title = \"Dosis \\u00fc\"))"), script)
+    libraries <- paste0("R_LIBS=", shQuote(paste(.libPaths(), collapse = ":")))
+    system2(file.path(R.home("bin"), "Rscript"), shQuote(c("--vanilla", script, file)), env = c("LC_ALL=C", libraries))
+    expect_true(has(page_in(file), "<h1>Dosis \u00fc</h1>"))
+  })
+})
+
 test_that("a file has the whole page, or stays as it was", {
   with_page(function(file) {
     x <- graph_test(doses(), c(0.01, 0.02))

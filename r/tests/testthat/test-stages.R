@@ -23,6 +23,14 @@ test_that("levels at another weight are levels in proportion", {
   })
 })
 
+test_that("zeros before the digits of levels, weights and alpha change nothing", {
+  each_way(function(way) {
+    x <- graph_stages(pair(), list(H1 = c("002/1000", "010/1000"), H2 = c("2/1000", "10/1000")), alpha = "025/1000", at = "05/010")
+    expect_match(x$case, "spend H1 4/25 4/5\nspend H2 4/25 4/5\n", fixed = TRUE)
+    expect_equal(x$alpha, "1/40")
+  })
+})
+
 test_that("a small first level is spent as a level", {
   each_way(function(way) {
     graph <- graph_create(c(OS = 1), matrix(0, 1, 1))

@@ -27,6 +27,9 @@ test_that("a study keeps its looks, and the case beside them", {
     expect_equal(third$refused$hypothesis, "PFS")
     expect_true(all(third$rejected))
     expect_equal(third$rejections[c("look", "hypothesis")], data.frame(look = 2L, hypothesis = "OS"))
+    wrong <- graph_study(staged(), store, rbind(look("PFS", 3, 0.1), look("OS", 2, 1.5)))
+    expect_equal(wrong$refused[c("stage", "why")], data.frame(stage = 3:2, why = c("stage", "range")))
+    expect_equal(c(wrong$records, wrong$taken), c(2L, 2L))
     later <- graph_study(staged(), store, rbind(look("PFS", 2, 0.6), look("OS", 2, 0.5), look("OS", 1, 0.7)))
     expect_equal(later$refused[c("row", "hypothesis", "why")], data.frame(row = 3L, hypothesis = "OS", why = "known"))
     expect_output(print(third), "Not taken: row 1, PFS at stage 1: known")
@@ -46,6 +49,23 @@ test_that("the looks of another case are not read", {
   })
 })
 
+test_that("the looks of hypotheses with other labels are not read", {
+  with_folder(function(store) {
+    greek <- c("\u03b1", "\u03b2")
+    graph_study(staged(greek), store, look(greek[1], 1, 0.002))
+    fault <- "store: .*[.]db was made for the hypotheses "
+    for (labels in list(rev(greek), c("\u03b1", "\u03b3"))) {
+      expect_equal(staged(labels)$case, staged(greek)$case)
+      expect_error(graph_study(staged(labels), store, look(labels[1], 1, 0.001)), fault)
+    }
+    expect_equal(graph_study(staged(greek), store)$rejected, stats::setNames(c(TRUE, FALSE), greek))
+    # names that the user gives are in the case
+    expect_equal(graph_study(readLines(paste0(store, ".case")), store)$rejected, c(H1 = TRUE, H2 = FALSE))
+    expect_equal(list.files(dirname(store), "labels$"), paste0(basename(store), ".labels"))
+    unlink(paste0(store, ".labels"))
+  })
+})
+
 test_that("a study needs a file, and a staged case without looks", {
   with_folder(function(store) {
     for (wrong in list(":memory:", "file:x", "", NA, 1, c("a", "b"))) expect_error(graph_study(staged(), wrong), "store: the name of a file is needed")
@@ -55,6 +75,14 @@ test_that("a study needs a file, and a staged case without looks", {
     late <- graph_stages(pair(), list(H1 = 0.01, H2 = 0.01), look("H1", 1, 0.5))
     expect_error(graph_study(late, store), "case: a study begins without looks")
     expect_error(graph_study(1, store), "case: a result of graph_stages")
+    for (change in list(list("alpha", "1/20"), list("alpha", 0.05), list("graph", graph_create(c(PFS = 1, OS = 0), rbind(0:1, 1:0))))) {
+      changed <- staged()
+      changed[[change[[1]]]] <- change[[2]]
+      expect_error(graph_study(changed, store), "^case: its level or its graph was changed: call graph_stages with the new one$")
+    }
+    changed <- staged()
+    changed$levels <- list(PFS = 0.01, OS = 0.01)
+    expect_error(graph_study(changed, store), "^case: a staged test has the parts .*, and nothing reads a part \"levels\"$")
     expect_false(file.exists(paste0(store, ".case")))
     expect_error(plot(graph_study(staged(), store)), "a study has no picture")
   })

@@ -60,6 +60,18 @@ test_that("each element is one numeral", {
   })
 })
 
+test_that("an edge is 0 if it is written as 0, and a text without a numerator is refused", {
+  each_way(function(way) {
+    of <- function(edge) graph_create(c(1, 0), matrix(c("0", "0", edge, "0"), 2))
+    for (zero in c("0", "-0", "+0", "00", "0.", "0.00", ".0", "-.0", "0/7", "-00/0010")) {
+      expect_equal(unname(of(zero)$components[[1]]$edges[1, 2]), "0", info = zero)
+    }
+    for (text in c("/10", "-/10", "+/20", "./10", "/0010", "0/0", "0/")) {
+      expect_equal(refusal_of(of(text))$where, paste0("transitions: the edge from H1 to H2 is \"", text, "\""))
+    }
+  })
+})
+
 test_that("no option of R changes what is handed in or printed", {
   each_way(function(way) {
     plain <- list(graph = capture.output(print(holm(3))), canon = graph_canon(holm(3), c(1e-5, 0.1 + 0.2, 1)))
@@ -87,6 +99,12 @@ has_made_locale <- function(name) {
   Sys.setenv(LOCPATH = folder)
   nzchar(suppressWarnings(Sys.setlocale("LC_NUMERIC", name)))
 }
+
+test_that("columns of tables are flush, also with letters of two columns", {
+  skip_if_not(l10n_info()[["UTF-8"]], "the locale is not UTF-8")
+  table <- capture.output(welungad:::write_table(cbind(from = c("\u4e2d\u6587\u5b57", "B"), to = c("1", "10"))))
+  expect_equal(nchar(table, "width"), c(12, 12, 12))
+})
 
 test_that("a locale with a decimal comma changes nothing", {
   x <- c(1 / 3, 0.1 + 0.2, 0.025, 1.5e-30, 2^-24, 3.0000000000000004)
@@ -138,6 +156,12 @@ test_that("sums of doubles say what was read, and how to read the fractions", {
     expect_equal(unname(graph$components[[1]]$edges[2, ]), c("1/7", "0", "5/7", "1/7"))
     row <- refusal_of(graph_create(c(1, 0, 0), rbind(c(0, 0.1 + 0.2, 0.7), 0, 0)))
     expect_match(row$amount, "as_exact(transitions, total = 1)", fixed = TRUE)
+    # texts are not read as other numbers
+    written <- refusal_of(graph_create(c("0.30000000000000004", "0.7"), matrix(0, 2, 2)))
+    expect_match(written$amount, "0.30000000000000004 is one unit in the last place above 3/10", fixed = TRUE)
+    expect_false(grepl("as_exact", written$amount))
+    one <- graph_create(c(1, 0), matrix(0, 2, 2))
+    expect_match(refusal_of(graph_entangle(one, one, shares = c(0.1 + 0.2, 0.7)))$amount, "as_exact(shares, total = 1)", fixed = TRUE)
   })
   expect_error(as_exact(c(0.1, 0.2), total = 1), "x: the row reads as 3/10, and not as 1", fixed = TRUE)
   expect_error(as_exact(c(0.1, NA), total = 1), "none missing")

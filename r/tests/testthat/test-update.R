@@ -66,6 +66,26 @@ test_that("the graphs of a decision hold its weights", {
   })
 })
 
+test_that("a removal for which the program prints no weights is not called compared", {
+  each_way(function(way) {
+    graph <- graph_catalogue("fixed-sequence", 17)
+    update <- graph_update(graph, "H2")
+    expect_false(update$compared)
+    expect_output(print(update), "Not all weights could be compared with the proved call: it prints none for these removals.", fixed = TRUE)
+    expect_true(graph_update(graph, c("H1", "H2"))$compared)
+  })
+})
+
+test_that("an updated graph whose edges are quotients in epsilon is not read by the program", {
+  each_way(function(way) {
+    after <- graph_update(graph_catalogue("improved-parallel", 2, 2), "H3")$updated_graph
+    expect_equal(after$components[[1]]$edges["H4", "H1"], "(1-\\epsilon)/(2-\\epsilon)")
+    refusal <- refusal_of(graph_test(after, c(0.1, 0.2, 0.3)))
+    expect_match(refusal$line, ": divisor$")
+    expect_match(refusal$where, "^transitions: the edge from H4 to H1 is ")
+  })
+})
+
 test_that("a weight that is not the proved one stops", {
   each_way(function(way) {
     graph <- holm(3)
