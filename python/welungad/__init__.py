@@ -15,7 +15,8 @@ All results are exact fractions. The package decides nothing itself: it hands th
 does not. It raises `Refused` if the proved call refuses, and `BadAnswer` if what answered is not Welungad.
 
 The library is the file that the environment variable WELUNGAD_LIBRARY names; else libwelungad.so in this package; else the one of
-the checkout or of the installation that the package lies in; else the one that the system's loader finds.
+the checkout or of the installation that the package lies in; else the one below Python's own prefix; else the one that the system's
+loader finds.
 
 Calls from several threads run side by side. A call that has begun cannot be stopped.
 """

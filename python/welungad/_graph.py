@@ -429,12 +429,12 @@ class Graph:
 
     def report(self, decided: Any, file: Optional[Union[str, "os.PathLike[str]"]] = None, alpha: Optional[Given] = None,
                priority: Optional[str] = None, title: Optional[str] = None) -> Page:
-        """Returns a page about a decision, for people who read it, and writes it to a file if one is named.
+        """Returns a page about a decision for readers, and writes it to a file if one is named.
 
         `decided` is what `test` or `stages` of this graph returned, or p-values, which are then tested at `alpha` and by `priority`.
         The page has the decision on each hypothesis, the graph step by step, all intersections of few hypotheses, bounds, the case,
         and how to repeat and check the decision; the hypotheses have your labels. What it says of the decision is what the proved
-        call prints. `title` stands above it. It is one HTML file, without scripts, that needs no other file.
+        call prints. `title` is its title. It is one HTML file, without scripts, that needs no other file.
 
         `ValueError`: the decision is not of this graph. `OSError`: the file cannot be written, and stays as it was; or the scripts that
         make the page are not found. `BadAnswer`: the proved call does not print the report of the decision again."""

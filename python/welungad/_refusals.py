@@ -10,9 +10,9 @@ _KINDS_OF_A_WORD = [
     ("malformed: {place}: divisor", "An edge divides by something with epsilon. Divide by a plain number."),
     ("malformed: {place}: zero divisor", "An edge divides by 0."),
     ("malformed: {place}: unknown name", "A name is not the name of a hypothesis. Names are case-sensitive."),
-    ("limit: {place}: digits", "A numeral has more than 38 digits. Round a p-value up."),
+    ("limit: {place}: digits", "A numeral has more than 38 digits or decimal places. Round a p-value up."),
     ("limit: {place}: degree", "An edge has a power of epsilon above 4."),
-    ("limit: {place}: part", "An edge has a number above 10^18."),
+    ("limit: {place}: part", "An edge has a numerator or denominator above 10^18, or a decimal of too many digits."),
     ("limit: {place}: depth", "An edge has more than 32 open parentheses."),
 ]
 
@@ -68,7 +68,7 @@ _EXPLANATIONS = [
     ("malformed: case: edge NAME NAME component N", "An edge is not from 0 to 1."),
     ("malformed: case: row sum of NAME component N", "The edges from a hypothesis sum to more than 1, even if only by an epsilon. Write "
                                                      "1-\\epsilon beside \\epsilon, and thirds as 1/3."),
-    ("malformed: case: mixed", "There are stages and single p-values. Leave out one of the two."),
+    ("malformed: case: mixed", "There are stages, and p-values that are of no stage. Leave out one of the two."),
     ("malformed: case: p count N", "The number of p-values is not the number of hypotheses."),
     ("malformed: case: p missing NAME", "Some p-values are given, and this one is not. Give 1 if there is none."),
     ("malformed: case: p of NAME", "A p-value is not from 0 to 1."),
@@ -92,7 +92,7 @@ _EXPLANATIONS = [
     ("limit: spend steps N", "There are more than 32 steps of a table."),
     ("limit: size N", "A size is 0 or above 64, or the sum of two sizes is above 64."),
     ("limit: seed N", "A seed is 2^48 or more."),
-    ("limit: case: part alpha", "The numerator or the denominator of the level is above 10,000. Write it with four decimals."),
+    ("limit: case: part alpha", "The numerator or the denominator of the level is above 10,000. Write it with at most four decimals."),
     ("limit: case: part p of NAME", "The denominator of a p-value is above 10^30. Round one below 10^-30 up to 1e-30."),
     ("limit: case: part arrival N", "The denominator of a p-value is above 10^30. Round one below 10^-30 up to 1e-30."),
     ("limit: case: part spend of NAME stage N", "The numerator or the denominator of a fraction of spend is above 10,000."),

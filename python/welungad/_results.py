@@ -263,7 +263,7 @@ class Picture:
 
 @dataclass(frozen=True)
 class Page:
-    """A page about a decision, for people who read it: one HTML file, which has no scripts and needs no other file."""
+    """A page about a decision, for readers: one HTML file, which has no scripts and needs no other file."""
 
     html: str = field(repr=False)
 

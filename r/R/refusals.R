@@ -24,7 +24,7 @@ refusal_table <- c(
   "^malformed: case: self edge of " = "The diagonal of a matrix is 0.",
   "^malformed: case: repeated edge " = "Give each pair of hypotheses at most one edge.",
   "^malformed: case: edge " = "Choose an edge from 0 to 1.",
-  "^malformed: case: mixed$" = "Leave out one of the two: single p-values, or stages.",
+  "^malformed: case: mixed$" = "Leave out one of the two: stages, or p-values that are of no stage.",
   "^malformed: case: p count " = "Give one p-value for each hypothesis.",
   "^malformed: case: p missing " = "Give 1 if there is no p-value.",
   "^malformed: case: p of " = "Choose a p-value from 0 to 1.",
