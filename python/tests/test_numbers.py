@@ -256,6 +256,23 @@ class Kinds(unittest.TestCase):
         with self.assertRaisesRegex(TypeError, "^numbers is of type .*, whose numbers may not be doubles: give doubles"):
             welungad.as_exact(Dictionary([0.10000000149011612]))
 
+    def test_numbers_with_a_unit(self):
+        class Quantity:
+            """As an array of astropy, or a number of it: its list has half a percent as 0.5."""
+
+            unit = "%"
+            dtype = types.SimpleNamespace(kind="f", itemsize=8)
+
+            def __init__(self, values):
+                self.values, self.ndim = values, int(isinstance(values, list))
+
+            def tolist(self):
+                return self.values
+
+        for given in (Quantity(0.5), Quantity([0.5, 1.0]), [Quantity(0.5)], {"H1": Quantity(0.5)}):
+            with self.assertRaisesRegex(TypeError, "is of type Quantity, whose numbers have a unit: give the numbers alone$"):
+                welungad.as_exact(given)
+
     @unittest.skipUnless(pandas, "pandas is missing")
     def test_short_floats_in_pandas(self):
         short = pandas.Series([0.1, 0.2], dtype="float32")

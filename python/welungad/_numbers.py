@@ -209,16 +209,23 @@ def _type_of_numbers(value: Any) -> Any:
     return getattr(categories, "dtype", getattr(dtype, "subtype", dtype))
 
 
+def _has_unit(value: Any) -> bool:
+    """Whether something is of a class whose numbers have a unit, such as percents, as astropy, pint and quantities have them."""
+    return any(hasattr(type(value), name) for name in ("unit", "units"))
+
+
 def plain(value: Any, place: str) -> Any:
     """Returns what an array, or a scalar of numpy, holds, as lists and numbers of Python.
 
     `TypeError`: its numbers have other digits than a double, or may have, so that they are not the doubles that they look like; they
-    are times; they are in fields with names; or numpy has turned doubles into texts, since there was a text among them.
+    are times, or have a unit; they are in fields with names; or numpy has turned doubles into texts, since there was a text among them.
     """
     dtype = _type_of_numbers(value)
     kind = getattr(dtype, "kind", "")
     if _is_of_times(value):
         raise TypeError(f"{place} is of type {dtype}, and times are no numbers")
+    if _has_unit(value):
+        raise TypeError(f"{place} is of type {kind_of(value)}, whose numbers have a unit: give the numbers alone")
     if kind == "V":
         raise TypeError(f"{place} is of type {dtype}, whose fields have names: give a frame, a dict or a list")
     found = value.tolist()
