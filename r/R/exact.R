@@ -137,8 +137,8 @@ Ops.welungad_exact <- function(e1, e2) {
 
 # Numbers are the same if they have the same value, or the same text with epsilon.
 duplicated.welungad_exact <- function(x, incomparables = FALSE, ...) {
-  values <- as.character(fraction(x$read))
-  duplicated(ifelse(is.na(values), x$read, values), incomparables, ...)
+  values <- fraction(x$read)
+  duplicated(ifelse(is.na(values), x$read, as.character(values)), incomparables, ...)
 }
 
 unique.welungad_exact <- function(x, incomparables = FALSE, ...) x[!duplicated(x, incomparables, ...)]

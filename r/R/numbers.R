@@ -25,8 +25,7 @@ exact_of <- function(x, what) {
     warn_written(read, what)
     read <- list(given = as.vector(x), read = read, rule = ifelse(is.na(read), "missing", "text"))
   } else if (inherits(x, c("bigq", "bigz"))) {
-    texts <- as.vector(as.character(gmp::as.bigq(x)))
-    read <- list(given = texts, read = texts, rule = ifelse(is.na(texts), "missing", "fraction of gmp"))
+    read <- read_fractions(gmp::as.bigq(x))
   } else if (inherits(x, "integer64")) {
     read <- read_integer64(x)
   } else if (has_doubles(x) || (is.logical(x) && all(is.na(x)))) {
@@ -82,6 +81,13 @@ refuse_valueless <- function(x, what, names) {
   if (length(wrong)) {
     refuse(3L, "malformed: number", where = sprintf("%s: %s is %s", what, place_text(wrong[1], names), x[wrong[1]]))
   }
+}
+
+# The fractions of gmp, which writes a missing one as NA.
+read_fractions <- function(x) {
+  texts <- as.vector(as.character(x))
+  missing <- as.vector(is.na(x))
+  list(given = texts, read = ifelse(missing, NA_character_, texts), rule = ifelse(missing, "missing", "fraction of gmp"))
 }
 
 # The whole numbers of the package bit64, which keeps their 64 bits in a double. NA is the least of them.

@@ -10,7 +10,7 @@ decimal_text <- function(x, digits) with_point(sprintf("%.*g", as.integer(digits
 # A double for a message: with 15 digits, or with 17 if those are of another double.
 double_text <- function(x) {
   text <- decimal_text(x, 15)
-  if (isTRUE(as.numeric(text) != x)) decimal_text(x, 17) else text
+  if (is.finite(x) && as.numeric(text) != x) decimal_text(x, 17) else text
 }
 
 # Texts with a point in place of what the user's locale has, as a comma.

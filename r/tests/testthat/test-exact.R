@@ -116,7 +116,7 @@ test_that("rows and columns of numbers are given, turned and named as of other v
   expect_identical(dimnames(m), list(c("r", "s"), NULL))
   dimnames(m) <- list(1:2, c("t", "u"))
   expect_identical(dimnames(m), list(c("1", "2"), c("t", "u")))
-  for (wrong in list(list("r", NULL), list(c("r", "s")), "r")) expect_error(dimnames(m) <- wrong)
+  for (wrong in list(list("r", NULL), list(NULL, c("t", "u", "v")), "r")) expect_error(dimnames(m) <- wrong)
   expect_error(dimnames(x) <- list(letters[1:4]))
   expect_identical(unclass(t(m)), unclass(as_exact(t(matrix(c(0, 1 / 2, 1 / 3, 0), 2, dimnames = list(1:2, c("t", "u")))))))
   expect_identical(dimnames(t(x)), list(NULL, c("a", "b", "c", "d")))

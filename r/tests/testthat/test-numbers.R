@@ -137,6 +137,8 @@ test_that("texts and exact fractions stay as they are", {
   expect_equal(read(c("1/3", "0.1", "1-\\epsilon")), c("1/3", "0.1", "1-\\epsilon"))
   expect_equal(read(gmp::as.bigq(c(1, 2), c(3, 4))), c("1/3", "1/2"))
   expect_equal(read(gmp::as.bigz(2)), "2")
+  expect_identical(read(gmp::as.bigq(c("1/3", NA))), c("1/3", NA))
+  expect_identical(as_exact(gmp::as.bigz(c(NA, 2)))$rule, c("missing", "fraction of gmp"))
   expect_equal(as.character(as_exact(c(a = 0.5))), c(a = "1/2"))
 })
 

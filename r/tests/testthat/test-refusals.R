@@ -23,6 +23,7 @@ test_that("refusals name the argument and the place", {
     graph <- graph_create(c("low dose" = 1 / 2, B = 1 / 2), rbind(0:1, 1:0))
     where <- function(code) refusal_of(code)$where
     expect_equal(where(graph_test(graph, c(0.1, NA))), "p: the p-value of B is missing")
+    expect_equal(where(graph_test(graph, gmp::as.bigq(c("1/10", NA)))), "p: the p-value of B is missing")
     expect_equal(where(graph_test(graph, c(-0.5, 0.1))), "p: the p-value of low dose is -1/2")
     expect_equal(where(graph_test(graph, c("0.1", "x"))), "p: the p-value of B is \"x\"")
     expect_equal(where(graph_test(graph, 0.1)), "p: the number of the p-values is not that of the hypotheses")
