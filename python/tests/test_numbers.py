@@ -239,6 +239,20 @@ class Kinds(unittest.TestCase):
         with self.assertRaisesRegex(TypeError, "^numbers is of type Column, whose numbers may not be doubles: give doubles"):
             welungad.as_exact(Column([0.10000000149011612]))
 
+    def test_fields_with_names(self):
+        class Records:
+            """As an array of numpy with named fields, whose rows are tuples, here of short floats."""
+
+            ndim = 1
+            dtype = types.SimpleNamespace(kind="V", itemsize=8)
+
+            def tolist(self):
+                return [(0.029999999329447746, 0.019999999552965164)]
+
+        for place in ("levels", "edges"):
+            with self.subTest(place), self.assertRaisesRegex(TypeError, f"^{place} is of type .*, whose fields have names: give a frame, a dict or a list$"):
+                _numbers.plain(Records(), place)
+
     def test_a_dictionary_of_pyarrow(self):
         class Dictionary:
             """As a column of pandas over a dictionary of pyarrow: its type has objects, which may be made of short floats."""
