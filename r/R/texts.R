@@ -90,7 +90,7 @@ write_table <- function(texts) {
   all <- rbind(colnames(texts), unname(texts))
   all[is.na(all)] <- ""
   columns <- lapply(seq_len(ncol(all)), function(j) {
-    formatC(all[, j], width = max(nchar(all[, j], "width")), flag = if (j == 1) "-" else "")
+    formatC(all[, j], width = max(nchar(all[, j])), flag = if (j == 1) "-" else "")
   })
   cat(sub(" +$", "", paste0("  ", do.call(paste, c(columns, sep = "  ")))), sep = "\n")
 }

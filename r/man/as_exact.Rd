@@ -34,6 +34,8 @@ A data frame is read column by column. A text that R writes for a fraction, as \
 written, with a warning of class \code{welungad_written}. Such texts have 6 digits and denominators up to 100, 7 digits and denominators
 up to 1,000, or 8 to 17 digits and denominators up to 10,000. R drops zeros at the end, so it writes \code{"0.952381"} for 20/21.
 
+\code{c}, \code{rev} and \code{cbind} of gmp drop names, so give names to its fractions afterwards, or join what \code{as_exact} makes of them.
+
 \code{NaN} and infinite numbers are refused. A missing number stays missing; what needs it refuses it.
 }
 \value{

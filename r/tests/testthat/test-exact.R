@@ -30,6 +30,7 @@ test_that("numbers that are put together have the names that R gives", {
   expect_identical(c(one, NULL)$read, "9/10")
   expect_identical(names(c(a = one, b = NULL, c = one)), c("a", "c"))
   expect_identical(c(a = one, b = "1/3")$read, c("9/10", "1/3"))
+  expect_identical(names(c(a = as_exact(gmp::as.bigq(1, 3)), b = gmp::as.bigq(2, 3))), c("a", "b"))
   each_way(function(way) {
     expect_equal(graph_test(pair(), c(H2 = as_exact(0.001), H1 = one))$rejected, c(H1 = FALSE, H2 = TRUE))
     expect_error(graph_test(pair(), c(as_exact(0.001), H1 = 0.9)), "p: the first has no name, and others have one", fixed = TRUE)

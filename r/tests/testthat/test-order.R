@@ -208,8 +208,8 @@ test_that("logical vectors with names are put in order", {
 
 test_that("results have the labels of the user", {
   each_way(function(way) {
-    graph <- graph_create(c("dose \u00fc" = 1 / 2, "dose b" = 1 / 2), rbind(0:1, 1:0))
     labels <- c("dose \u00fc", "dose b")
+    graph <- graph_create(stats::setNames(c(1 / 2, 1 / 2), labels), rbind(0:1, 1:0))
     x <- graph_test(graph, c(0.001, 0.9))
     expect_true(x$rejected[["dose \u00fc"]])
     expect_equal(names(x$adjusted), labels)

@@ -100,12 +100,6 @@ has_made_locale <- function(name) {
   nzchar(suppressWarnings(Sys.setlocale("LC_NUMERIC", name)))
 }
 
-test_that("columns of tables are flush, also with letters of two columns", {
-  skip_if_not(l10n_info()[["UTF-8"]], "the locale is not UTF-8")
-  table <- capture.output(welungad:::write_table(cbind(from = c("\u4e2d\u6587\u5b57", "B"), to = c("1", "10"))))
-  expect_equal(nchar(table, "width"), c(12, 12, 12))
-})
-
 test_that("a locale with a decimal comma changes nothing", {
   x <- c(1 / 3, 0.1 + 0.2, 0.025, 1.5e-30, 2^-24, 3.0000000000000004)
   plain <- list(numbers = unclass(as_exact(x)), shown = capture.output(print(as_exact(x))))
