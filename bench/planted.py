@@ -3,27 +3,31 @@
 
     bench/planted.py
 
-docs/TESTING.md has a table whose heading is `| Wrong body | Crate | Refused by |`: wrong bodies that are always planted, each with
-its crate and the clause that refuses it. The check fails if
+docs/TESTING.md has a table whose heading is `| Wrong body | Crate | What it does | Run that it fails | Refused by |`: wrong bodies
+that are always planted. bench/named.py requires that each fails its run. The check fails if
 
-- one of them has no edit of its name in its crate, or names no clause;
-- there are more than 150 planted bugs in all;
+- one of them has no edit of its name in its crate, or a cell of its line is empty;
+- there are more than 165 planted bugs in all;
+- an edit changes something else than a source (`file: src/..`), since the refusal of another definition or proof shows nothing;
 - the `old:` text of an edit does not stand exactly once in its file, after the edit's earlier pairs.
 
 `rt ci` tries the edits themselves, and passes over one that cannot be applied. Prints how many there are, and a line for each
 failure. Ends with status 1 if there is one.
 """
+import collections
 import pathlib
 import sys
 
 TOP = pathlib.Path(__file__).resolve().parent.parent
 PAGE = TOP / "docs" / "TESTING.md"
-HEADING = "| Wrong body | Crate | Refused by |"
-MOST = 150
+HEADING = "| Wrong body | Crate | What it does | Run that it fails | Refused by |"
+MOST = 165
+
+Row = collections.namedtuple("Row", "name crate does run clause")
 
 
 def named_bugs(page):
-    """Returns the rows of the table of wrong bodies: name, crate and clause."""
+    """Returns the rows of the table of wrong bodies."""
     lines = page.split("\n")
     if HEADING not in lines:
         return []
@@ -31,8 +35,8 @@ def named_bugs(page):
     for line in lines[lines.index(HEADING) + 2 :]:
         if not line.startswith("|"):
             break
-        name, crate, clause = (cell.strip() for cell in line.strip("|").split("|", 2))
-        rows.append((name.strip("`"), crate, clause))
+        cells = [cell.strip() for cell in line.strip("|").split("|", 4)]
+        rows.append(Row(cells[0].strip("`"), *(cells[1:] + [""] * 4)[:4]))
     return rows
 
 
@@ -40,11 +44,11 @@ def missing_bugs(rows, edits):
     """Yields a line for each wrong body of the table that has no edit or no clause."""
     if not rows:
         yield f"{PAGE.relative_to(TOP)}: no table with the heading {HEADING}"
-    for name, crate, clause in rows:
-        if (crate, name) not in edits:
-            yield f"crates/{crate}/must-fail/{name}.edit: missing"
-        if not clause:
-            yield f"{PAGE.relative_to(TOP)}: {name}: no clause"
+    for row in rows:
+        if (row.crate, row.name) not in edits:
+            yield f"crates/{row.crate}/must-fail/{row.name}.edit: missing"
+        if not all(row):
+            yield f"{PAGE.relative_to(TOP)}: {row.name}: an empty cell"
 
 
 def edit_pairs(edit):
@@ -68,6 +72,8 @@ def unapplied_texts(edit):
         yield f"{place}: no pair of texts"
     for file, old, new in pairs:
         source = edit.parent.parent / (file or "")
+        if not (file or "").startswith("src/"):
+            yield f"{place}: it changes {file}, which is not below src"
         if source not in changed:
             if not source.is_file():
                 yield f"{place}: no file {file}"
@@ -93,4 +99,5 @@ def main():
     sys.exit(1 if failures else 0)
 
 
-main()
+if __name__ == "__main__":
+    main()

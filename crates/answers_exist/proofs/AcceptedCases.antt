@@ -31,10 +31,9 @@ use Rattle.graph_cli.specs.declared.kind.InputKind.{InputKind}
 use Rattle.graph_cli.specs.declared.kind.InputKind.TheVariants as kinds
 use Rattle.graph_cli.specs.declared.needs.Needs.{Needs}
 use Rattle.graph_cli.specs.declared.trouble.Trouble.TheVariants as troubles
-use Rattle.graph_cli.proofs.ClosedReports.{known_arrivals, faultless_content}
+use Rattle.graph_cli.proofs.ClosedReports.{valid_said}
 use Rattle.answers_exist.specs.Ends.{Ends}
 use Rattle.answers_exist.proofs.Ends.{then_ends, told_ends, bytes_end, within_ends}
-use Rattle.answers_exist.proofs.GivenLevels.{HasLevel}
 use Rattle.answers_exist.proofs.Results.{given_or_none, not_given, value_or_fault}
 
 -- ---- drafts
@@ -43,9 +42,9 @@ mapped_fault : {A B E : Type 0} (f : A → B) (r : Result A E) (e : E) → mappe
 mapped_fault f (Ok x) e h = absurd (cc h)
 mapped_fault f (Err g) e h = cc
 
-sheet_ends : (bytes : List ℕ) (r : Ratio) → Ends (grammar (csv (record { num = r.num; den = r.den })) bytes)
-sheet_ends bytes r = elim (value_or_fault (table_of r (cells_of bytes))) [
-  | inl d ↦ inl (d.0, (r, refl, d.1))
+sheet_ends : (bytes : List ℕ) (alpha : Ratio) → Ends (grammar (csv alpha) bytes)
+sheet_ends bytes alpha = elim (value_or_fault (table_of alpha (cells_of bytes))) [
+  | inl d ↦ inl (d.0, d.1)
   | inr f ↦ inr (
     cell_refusal f.0.row f.0.column f.0.kind,
     (f.0.row, f.0.column, f.0.kind, mapped_fault _ (sheet_of (cells_of bytes)) f.0 f.1, refl),
@@ -67,13 +66,13 @@ json_ends bytes = elim (true_or_false (is_utf8 bytes)) [
   ]
 ]
 
-grammar_ends : (format : Encoding) (bytes : List ℕ) → HasLevel format → Ends (grammar format bytes)
-grammar_ends text bytes l = elim (says_or_fails bytes) [
+grammar_ends : (format : Encoding) (bytes : List ℕ) → Ends (grammar format bytes)
+grammar_ends text bytes = elim (says_or_fails bytes) [
   | inl d ↦ inl (d.0, d.1)
   | inr f ↦ inr (line_refusal f.0 f.1, (f.0, f.1, f.2, refl))
 ]
-grammar_ends (csv alpha) bytes l = subst (λ a. Ends (grammar (csv a) bytes)) l.1 (sheet_ends bytes l.0)
-grammar_ends json bytes l = json_ends bytes
+grammar_ends (csv alpha) bytes = sheet_ends bytes alpha
+grammar_ends json bytes = json_ends bytes
 
 faultless_ends : (d : Draft) → Ends (faultless d)
 faultless_ends d = elim (given_or_none (case_fault d)) [
@@ -112,10 +111,10 @@ suitable_ends : (needs : Needs) (c : Content) → Ends (suitable needs c)
 suitable_ends needs c = then_ends (of_kind needs.kind c) (of_size needs.most) (kind_ends needs.kind c) (λ x g. size_ends needs.most x)
 
 -- a source in a format denotes a case that a command with these needs can take, or is refused
-pub accepted_ends : (format : Encoding) (needs : Needs) (left : Option (List ℕ)) → HasLevel format → Ends (accepted format needs left)
-accepted_ends format needs left l =
+pub accepted_ends : (format : Encoding) (needs : Needs) (left : Option (List ℕ)) → Ends (accepted format needs left)
+accepted_ends format needs left =
     then_ends (on_bytes left (within [])) _ (bytes_end left (within []) (λ bytes. within_ends [] bytes))
-    (λ bytes g. then_ends (case_in format bytes) _ (then_ends (grammar format bytes) faultless (grammar_ends format bytes l) (λ d h. faultless_ends d))
+    (λ bytes g. then_ends (case_in format bytes) _ (then_ends (grammar format bytes) faultless (grammar_ends format bytes) (λ d h. faultless_ends d))
     (λ c h. told_ends (line_of c.names) (suitable needs c) (suitable_ends needs c)))
 
 -- ---- what is taken
@@ -129,7 +128,7 @@ pub accepted_taken : (format : Encoding) (needs : Needs) (left : Option (List �
 accepted_taken format needs left c g =
     let draft = g.2.1.0 in
     let read : (c : Content) → (case_in format g.0).Gives c → IsValidContent c =
-    λ c h. subst IsValidContent (sym h.2.1) (faultless_content h.0 h.2.0 (known_arrivals format g.0 h.0 h.1)) in
+    λ c h. subst IsValidContent (sym h.2.1) (valid_said format g.0 h.0 h.1 h.2.0) in
     let fits = g.2.2 in
     record {
       valid = subst IsValidContent (sym (fits.2.1 ∙ fits.1.1)) (read g.2.0 g.2.1);

@@ -44,7 +44,6 @@ use Rattle.answers_exist.proofs.AcceptedCases.{IsTaken, accepted_ends, accepted_
 use Rattle.answers_exist.proofs.DecidedCalls.{decided_ends, test_ends, stages_ends}
 use Rattle.answers_exist.proofs.Ends.{then_ends, told_ends, only_ends, within_ends, bytes_end, has_answer}
 use Rattle.answers_exist.proofs.EvidenceCalls.{check_ends, evidence_ends}
-use Rattle.answers_exist.proofs.GivenLevels.{HasLevel, AsksLevel, words_level}
 use Rattle.answers_exist.proofs.NamedCases.{IsPlain, holm_plain, sequence_plain, fallback_plain, parallel_plain, improved_plain, sample_plain, sample_is}
 use Rattle.answers_exist.proofs.Results.{value_or_fault}
 use Rattle.answers_exist.proofs.SetCalls.{weights_ends, bounds_ends, simes_ends}
@@ -115,31 +114,31 @@ task_ends (tasks.Evidence priority) c T = let s = single_of c.inputs T.of_kind i
 task_ends tasks.Stages c T = stages_ends c T.valid
 task_ends (tasks.Canon format) c T = canon_ends format c
 
-case_ends : (format : Encoding) (task : CaseTask) (case : Option (List ℕ)) → HasLevel format → Ends (case_call format task case)
+case_ends : (format : Encoding) (task : CaseTask) (case : Option (List ℕ)) → Ends (case_call format task case)
 unfolding case_call
-case_ends format task case l =
-    then_ends (accepted format (needs_of task) case) _ (accepted_ends format (needs_of task) case l)
+case_ends format task case =
+    then_ends (accepted format (needs_of task) case) _ (accepted_ends format (needs_of task) case)
     (λ c g. told_ends (line_of c.names) (on_case task c) (task_ends task c (accepted_taken format (needs_of task) case c g)))
 
-check_call_ends : (format : Encoding) (case proof : Option (List ℕ)) → HasLevel format → Ends (check_call format case proof)
+check_call_ends : (format : Encoding) (case proof : Option (List ℕ)) → Ends (check_call format case proof)
 unfolding check_call
-check_call_ends format case proof l =
-    then_ends (accepted format check_needs case) _ (accepted_ends format check_needs case l)
+check_call_ends format case proof =
+    then_ends (accepted format check_needs case) _ (accepted_ends format check_needs case)
     (λ c g. then_ends (on_bytes proof (within (codes "proof "))) _ (bytes_end proof (within (codes "proof ")) (λ bytes. within_ends (codes "proof ") bytes))
     (λ bytes h. told_ends (line_of c.names) (check_stage c bytes) (check_ends c bytes)))
 
 -- ---- calls
 
-call_ends : (command : Asked) (case proof : Option (List ℕ)) → AsksLevel command → Ends (call_of command case proof)
+call_ends : (command : Asked) (case proof : Option (List ℕ)) → Ends (call_of command case proof)
 unfolding call_of help_stage
-call_ends (task_on_case format task) case proof l = case_ends format task case (l format refl)
-call_ends (catalogue graph) case proof l = catalogue_ends graph
-call_ends (check format file) case proof l = check_call_ends format case proof (l format refl)
-call_ends (sample size seed) case proof l = sample_ends size seed
-call_ends help case proof l = only_ends (done help_text)
+call_ends (task_on_case format task) case proof = case_ends format task case
+call_ends (catalogue graph) case proof = catalogue_ends graph
+call_ends (check format file) case proof = check_call_ends format case proof
+call_ends (sample size seed) case proof = sample_ends size seed
+call_ends help case proof = only_ends (done help_text)
 
 pub calls_have_an_answer : CallsHaveAnAnswer
 calls_have_an_answer words case proof =
     has_answer (outcome words case proof)
     (then_ends (told_as usage (stage_of (asked_in words))) _ (told_ends usage (stage_of (asked_in words)) (result_ends (asked_in words)))
-    (λ command g. call_ends command case proof (words_level words command g)))
+    (λ command g. call_ends command case proof))

@@ -6,7 +6,6 @@ pub mod Decisions
 pub mod Ends
 pub mod EvidenceCalls
 pub mod FlowEvidence
-pub mod GivenLevels
 pub mod NamedCases
 pub mod Results
 pub mod Searches

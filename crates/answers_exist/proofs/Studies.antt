@@ -39,7 +39,6 @@ use Rattle.answers_exist.specs.Existence.{StudiesHaveAnOutcome}
 use Rattle.answers_exist.proofs.AcceptedCases.{accepted_ends, accepted_taken}
 use Rattle.answers_exist.proofs.Calls.{result_ends}
 use Rattle.answers_exist.proofs.Ends.{then_ends, told_ends, within_ends, bytes_end}
-use Rattle.answers_exist.proofs.GivenLevels.{HasLevel, study_level}
 use Rattle.answers_exist.proofs.Results.{value_or_fault}
 
 -- ---- commands
@@ -145,11 +144,10 @@ said_in : (c : Content) (source : Option (List ℕ)) (list : List StudyCommand) 
     → AllByRecursion (IsBelow (length c.names)) list
 said_in c source list g = commands_below c g.0 list g.2
 
-call_ends : (asked : StudyAsked) (case commands : Option (List ℕ)) (kept : Option (List Look)) → HasLevel asked.format
-    → Ends (study_call asked case commands kept)
+call_ends : (asked : StudyAsked) (case commands : Option (List ℕ)) (kept : Option (List Look)) → Ends (study_call asked case commands kept)
 unfolding study_call
-call_ends asked case commands kept l =
-    then_ends (case_of asked case) _ (accepted_ends asked.format study_needs case l)
+call_ends asked case commands kept =
+    then_ends (case_of asked case) _ (accepted_ends asked.format study_needs case)
     (λ c g. let T = accepted_taken asked.format study_needs case c g in
     then_ends (commands_from c commands) _
     (then_ends (on_bytes commands (within (codes "commands "))) (commands_in c)
@@ -159,4 +157,4 @@ call_ends asked case commands kept l =
 pub studies_have_an_outcome : StudiesHaveAnOutcome
 studies_have_an_outcome words case commands kept =
     then_ends (told_as usage (stage_of (study_in words))) _ (told_ends usage (stage_of (study_in words)) (result_ends (study_in words)))
-    (λ asked g. call_ends asked case commands kept (study_level words asked g))
+    (λ asked g. call_ends asked case commands kept)

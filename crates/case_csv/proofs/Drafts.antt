@@ -127,7 +127,7 @@ kept_known : (count : ℕ) (keep : Bool) (es : List DraftEdge) → list_all (goe
 kept_known count true es h = h
 kept_known count false es h = refl
 
-sheet_known : (alpha : Ratio) (records : List Cells) (said : SheetSaid) → sheet_of records ≡ Ok said
+pub sheet_known : (alpha : Ratio) (records : List Cells) (said : SheetSaid) → sheet_of records ≡ Ok said
     → list_all (goes_between (length said.names)) (table_edges 0 said.rows) ≡ true
 sheet_known alpha [] said e = absurd (cc e)
 sheet_known alpha (header ∷ records) said e =

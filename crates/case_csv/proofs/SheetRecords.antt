@@ -27,7 +27,7 @@ use Rattle.case_model.specs.declared.component.Component.{Component}
 use Rattle.case_model.specs.declared.inputs.Inputs.{Inputs}
 use Rattle.case_model.specs.declared.inputs.Inputs.TheVariants.{Bare, Single, Staged}
 use Rattle.case_model.specs.Entries.{entry_at}
-use Rattle.case_model.specs.ValidDraft.{Each}
+use Rattle.case_model.specs.Validity.{Each}
 use Rattle.edge_expression.specs.EntryReading.{IsEntryText}
 use Rattle.edge_expression.specs.EntryTexts.{entry_text}
 use Rattle.edge_text.specs.CanonicalText.{number_word, name_at}

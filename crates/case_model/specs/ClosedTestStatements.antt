@@ -97,3 +97,8 @@ RatioOrdersExist = (E : EntangledGraph) (p : ℕ → Number) (level : Number) (I
 abbrev pub RejectionsStayAtGreaterLevels : Type 0
 RejectionsStayAtGreaterLevels = (E : EntangledGraph) (p : ℕ → Number) (level higher : Number) (j : ℕ) → level ≤ε higher
     → IsRejected E p level j → IsRejected E p higher j
+
+-- What the closed test rejects, it rejects too where p-values are lesser and none is greater.
+abbrev pub RejectionsStayAtLesserPValues : Type 0
+RejectionsStayAtLesserPValues = (E : EntangledGraph) (p lesser : ℕ → Number) (level : Number) (j : ℕ) → ((k : ℕ) → lesser k ≤ε p k)
+    → IsRejected E p level j → IsRejected E lesser level j

@@ -31,6 +31,10 @@ pub record Content : Type 0 where
   pub components : List Component
   pub inputs : Inputs
 
+-- the content of these parts
+abbrev pub content_from : List (List ℕ) → Ratio → List Component → Inputs → Content
+content_from names alpha components inputs = record { names = names; alpha = alpha; components = components; inputs = inputs }
+
 -- ---- the content of a draft
 
 -- the entry of the first edge in a list that goes from `i` to `j`, and 0 if none does

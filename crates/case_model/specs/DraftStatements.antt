@@ -2,15 +2,16 @@
 use Rattle.std.specs.Prelude.{◌≡◌, ◌↔◌, ℕ, true, None}
 use Rattle.case_model.specs.declared.draft.Draft.{Draft}
 use Rattle.case_model.specs.CaseFaults.{case_fault}
-use Rattle.case_model.specs.Content.{Content}
+use Rattle.case_model.specs.Content.{Content, content_of}
+use Rattle.case_model.specs.Draft.{have_known_ends, have_known_arrivals}
 use Rattle.case_model.specs.Spends.{IsRisingSpend}
 use Rattle.case_model.specs.StagedCase.{has_short_fractions, spend_in}
-use Rattle.case_model.specs.ValidDraft.{IsValidDraft, HasWrittenSums}
-use Rattle.case_model.specs.Validity.{IsValidContent}
+use Rattle.case_model.specs.Validity.{IsValidContent, IsOneCase}
 
--- A draft has no fault exactly if it is valid and its sums can be written.
+-- A draft whose edges and arrivals are of its hypotheses has no fault exactly if its content is valid and it is one case.
 abbrev pub DraftsAreFaultlessWhereValid : Type 0
-DraftsAreFaultlessWhereValid = (d : Draft) → (case_fault d ≡ None) ↔ (IsValidDraft d × HasWrittenSums d)
+DraftsAreFaultlessWhereValid =
+    (d : Draft) → have_known_ends d ≡ true → have_known_arrivals d ≡ true → (case_fault d ≡ None) ↔ (IsValidContent (content_of d) × IsOneCase d)
 
 -- What is spent in a case isn't below 0, and doesn't fall from step to step.
 abbrev pub SpendsOfCasesRise : Type 0

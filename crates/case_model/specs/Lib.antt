@@ -29,5 +29,4 @@ pub mod Sums
 pub mod Tables
 pub mod TextbookGraphs
 pub mod TextbookRules
-pub mod ValidDraft
 pub mod Validity

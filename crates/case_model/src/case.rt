@@ -1,7 +1,7 @@
 //! Cases.
 ghost use Rattle.std.specs.Prelude.{◌≡◌, true};
-ghost use Rattle.case_model.specs.Content.{has_coefficients};
-ghost use Rattle.case_model.specs.Validity.{IsValidContent};
+ghost use Rattle.case_model.specs.Content.{content_from, has_coefficients};
+ghost use Rattle.case_model.specs.Validity.{IsValidContent, valid_is_fact};
 
 use crate::{Component, Entry, Inputs};
 use field_core::{List, Text};
@@ -14,7 +14,7 @@ pub struct Case {
     alpha: Fraction,
     components: List<Component>,
     inputs: Inputs,
-    ghost valid: { IsValidContent (record { names = names; alpha = alpha; components = components; inputs = inputs }) },
+    ghost valid: { IsValidContent (content_from names alpha components inputs) } by { Prim.hlevel valid_is_fact },
     ghost coefficients: { has_coefficients components ≡ true },
 }
 
@@ -24,7 +24,8 @@ impl Case {
     ghost use Rattle.case_model.specs.Sums.{ratio_at};
     ghost use Rattle.case_model.specs.Entries.{entry_at};
     ghost use Rattle.case_model.specs.Draft.{is_level, ArePValues};
-    ghost use Rattle.case_model.specs.Content.{component_at, IfSingle, IfStaged, AreStages, has_coefficients, is_alone, is_plain};
+    ghost use Rattle.case_model.specs.Content.{component_at, content_from, has_coefficients, is_alone, is_plain};
+    ghost use Rattle.case_model.specs.Content.{IfSingle, IfStaged, AreStages};
     ghost use Rattle.case_model.specs.Names.{position_of};
     ghost use Rattle.case_model.specs.Validity.{IsValidContent};
     ghost use Rattle.case_model.specs.CaseView.{content};
@@ -36,9 +37,9 @@ impl Case {
         components: List<Component>,
         inputs: Inputs,
     ) -> Case
-        requires valid { IsValidContent (record { names = names; alpha = alpha; components = components; inputs = inputs }) }
+        requires valid { IsValidContent (content_from names alpha components inputs) }
         requires coefficients { has_coefficients components ≡ true }
-        ensures { content result ≡ record { names = names; alpha = alpha; components = components; inputs = inputs } }
+        ensures { content result ≡ content_from names alpha components inputs }
     {
         Case {
             names,

@@ -10,6 +10,7 @@ ghost use Rattle.case_model.specs.ClosedTestStatements.{
   SetsAreRejectedByTheirSupersets,
   HypothesesAreRejectedByTheirSets,
   RejectionsStayAtGreaterLevels,
+  RejectionsStayAtLesserPValues,
   LegalOrdersAreRejected,
   CompleteListsHaveAllRejected,
   CompleteOrdersDecide,
@@ -34,14 +35,13 @@ ghost use Rattle.case_model.specs.IntersectionStatements.{
   IntersectionWeightsAreMonotone,
 };
 
-/// A draft has no fault exactly if it is valid and its sums can be written.
+/// A draft whose edges and arrivals are of its hypotheses has no fault exactly if its content is valid and it is one case.
 pub fn faultless_drafts_are_valid()
     ensures { DraftsAreFaultlessWhereValid }
 {}
 
 /// The entangled graph of a case is valid. Weights, edges and shares aren't below 0, and no hypothesis passes weight to itself.
 /// The weights, each row of edges and the shares sum to at most 1.
-#[tactic(auto, using(crate::proofs::ValidContents::valid_content))]
 pub fn entangled_graphs_are_valid()
     ensures { EntangledGraphsAreValid }
 {}
@@ -77,6 +77,11 @@ pub fn closed_rejections_are_of_all_supersets()
 /// What is rejected at a level is rejected at each greater one.
 pub fn rejections_stay_at_greater_levels()
     ensures { RejectionsStayAtGreaterLevels }
+{}
+
+/// What is rejected stays rejected where p-values fall and none rises.
+pub fn rejections_stay_at_lesser_p_values()
+    ensures { RejectionsStayAtLesserPValues }
 {}
 
 /// At a level from 0 to 1, a complete legal order has exactly the hypotheses that the closed test rejects, whichever

@@ -5,8 +5,9 @@
 //!   weights exist, are unique, sum to at most 1 and don't fall when the set shrinks. A complete legal order contains exactly
 //!   what the closed test rejects, and all complete orders agree. Consonance is proved once for any local test that survives a
 //!   greater weight.
-//! - A valid draft, defined by what holds of it, apart from the order of the tests. By the law `faultless_drafts_are_valid` a
-//!   draft has no fault exactly if it is valid and its written sums are defined.
+//! - A valid content, defined by what must hold of it, apart from the order of the tests. By the law
+//!   `faultless_drafts_are_valid` a draft whose edges and arrivals are of its hypotheses has no fault exactly if its content is
+//!   valid and it is one case.
 //! - Least rejecting levels, bounds on true discoveries over any table, and the staged test with its spends (`src/laws/`).
 //! - The textbook rules (Holm, fixed sequence, fallback) and their graphs; the laws on them are in textbook.
 //!

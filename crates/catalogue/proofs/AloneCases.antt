@@ -18,7 +18,8 @@ use Rattle.case_model.specs.CaseFaults.{case_fault}
 use Rattle.case_model.specs.Content.{Content, content_of, entangled, given}
 use Rattle.case_model.specs.TextbookGraphs.{IsAlone}
 use Rattle.case_model.proofs.PlainEntries.{plain_entry_value}
-use Rattle.case_model.proofs.ValidGraphs.{entry_at-table_of, number-zero}
+use Rattle.case_model.proofs.TableEdges.{entry_at-table_of}
+use Rattle.case_model.proofs.ValidGraphs.{number-zero}
 use Rattle.catalogue.specs.NamedGraphs.{constant}
 use Rattle.catalogue.specs.WeightedGraphs.{WeightedGraph, name_of, edges_of, draft_of}
 use Rattle.catalogue.specs.Makings.{made, made_unless}

@@ -24,7 +24,10 @@ use Rattle.case_model.proofs.FallbackOrders.{fallback_decides}
 use Rattle.case_model.proofs.SequenceOrders.{sequence_decides}
 use Rattle.case_model.proofs.HolmNumbers.{holm_decides}
 use Rattle.case_model.proofs.Thresholds.{good_level}
-use Rattle.case_model.proofs.ValidContents.{valid_entangled, shape_of_draft}
+use Rattle.case_model.proofs.DraftValidity.{valid_of}
+use Rattle.case_model.proofs.ValidContents.{valid_content, shape}
+use Rattle.case_model.specs.Validity.{IsValidContent}
+use Rattle.catalogue.proofs.KnownEnds.{known_ends, known_arrivals}
 use Rattle.case_model.proofs.ValidGraphs.{number-zero}
 use Rattle.catalogue.specs.NamedGraphs.{constant, part, holm_graph, sequence_graph, fallback_graph}
 use Rattle.catalogue.specs.WeightedGraphs.{WeightedGraph, draft_of}
@@ -91,12 +94,15 @@ module _ (G : WeightedGraph) (alpha : Ratio) (ps : List Ratio) (faultless : case
   E : EntangledGraph
   E = entangled (content_of (draft_of G alpha ps))
 
+  is_valid : IsValidContent (content_of (draft_of G alpha ps))
+  is_valid = valid_of (draft_of G alpha ps) (known_ends G alpha ps) (known_arrivals G alpha ps) faultless
+
   valid : IsValidEntangled (entangled (content_of (draft_of G alpha ps)))
-  valid = valid_entangled (draft_of G alpha ps) faultless
+  valid = valid_content (content_of (draft_of G alpha ps)) is_valid
 
   low : number_zero ≤ε number_of alpha
   unfolding content_of draft_of
-  low = subst (λ z. z ≤ε number_of alpha) field_zero (good_level alpha (shape_of_draft (draft_of G alpha ps) faultless).level).nonneg
+  low = subst (λ z. z ≤ε number_of alpha) field_zero (good_level alpha (shape (content_of (draft_of G alpha ps)) is_valid).level).nonneg
 
   -- what a rule decides on the graph, it decides on the case
   decides : (Rejects : ℕ → Type 0) → ¬ (ps ≡ [])

@@ -1,7 +1,7 @@
 -- Commands, as contracts see them.
 use Rattle.std.specs.Prelude.{ℕ, List, Option, Some, None}
 use Rattle.std.specs.Option.{option_map}
-use Rattle.command_words.specs.Levels.{Level, level_of}
+use Rattle.field_core.specs.declared.ratio.Ratio.{Ratio}
 use Rattle.command_words.specs.declared.command.CaseTask.{CaseTask}
 use Rattle.command_words.specs.declared.command.Command.{Command}
 use Rattle.command_words.specs.declared.command.Command.TheVariants as commands
@@ -13,7 +13,7 @@ use Rattle.command_words.specs.declared.format.CaseFormat.TheVariants as formats
 -- how a case is written; a sheet comes with its level
 pub data Encoding : Type 0 where
   text : Encoding
-  csv : (alpha : Level) → Encoding
+  csv : (alpha : Ratio) → Encoding
   json : Encoding
 
 -- what is to be done
@@ -26,7 +26,7 @@ pub data Asked : Type 0 where
 
 abbrev pub encoding : CaseFormat → Encoding
 encoding formats.Text = text
-encoding (formats.Csv alpha) = csv (level_of alpha)
+encoding (formats.Csv alpha) = csv alpha
 encoding formats.Json = json
 
 abbrev pub asked : Command → Asked

@@ -1,10 +1,12 @@
 -- What the arguments say.
 use Rattle.std.specs.Prelude.{ℕ, ◌+◌, List, Bool, true, false, not, Option, Some, None, is_some}
 use Rattle.std.specs.Option.{option_map}
+use Rattle.std.specs.Result.{result_ok}
 use Rattle.command_words.specs.Asked.{Asked, StudyAsked, Encoding, text, csv, json, on_case as task_on_case, check, catalogue, sample, help}
 use Rattle.command_words.specs.Counts.{count_of}
 use Rattle.command_words.specs.Graphs.{sized, has_second}
-use Rattle.command_words.specs.Levels.{Level, level_of, level_in}
+use Rattle.field_core.specs.declared.ratio.Ratio.{Ratio}
+use Rattle.fraction.specs.Numerals.{numeral_of}
 use Rattle.command_words.specs.Table.{format_named, format_read, graph_named, priority_named, passing}
 use Rattle.command_words.specs.declared.argument.Argument.{Argument}
 use Rattle.command_words.specs.declared.argument.Argument.TheVariants as arguments
@@ -23,7 +25,7 @@ use Rattle.sequential.specs.declared.priority.Priority.TheVariants.{First}
 -- names a file counts from 0.
 pub record GivenContent : Type 0 where
   pub format : Option Format
-  pub alpha : Option (Level × ℕ)
+  pub alpha : Option (Ratio × ℕ)
   pub priority : Option Priority
   pub to : Option Format
   pub size : Option ℕ
@@ -36,7 +38,7 @@ pub record GivenContent : Type 0 where
 abbrev pub given_content : Given → GivenContent
 given_content g = record {
   format = g.format;
-  alpha = option_map (λ x. (level_of x.0, x.1)) g.alpha;
+  alpha = g.alpha;
   priority = g.priority;
   to = g.to;
   size = g.size;
@@ -81,7 +83,7 @@ not_given g argument = passing (λ x. not (is_given g x)) argument
 -- the same, and an argument with the value that bytes spell, if they spell one; its first word is at a place, from 0
 unfoldable pub with_text : Verb → ℕ → Argument → List ℕ → GivenContent → Option GivenContent
 with_text verb at arguments.Format bytes g = option_map (λ format. record g { format = Some format }) (format_read verb bytes)
-with_text verb at arguments.Alpha bytes g = option_map (λ alpha. record g { alpha = Some (alpha, at + 1) }) (level_in bytes)
+with_text verb at arguments.Alpha bytes g = option_map (λ alpha. record g { alpha = Some (alpha, at + 1) }) (result_ok (numeral_of bytes))
 with_text verb at arguments.Priority bytes g = option_map (λ priority. record g { priority = Some priority }) (priority_named bytes)
 with_text verb at arguments.To bytes g = option_map (λ format. record g { to = Some format }) (format_named bytes)
 with_text verb at arguments.Size bytes g = option_map (λ size. record g { size = Some size }) (count_of bytes)
@@ -107,7 +109,7 @@ format_or_text None = formats.Text
 format_or_text (Some format) = format
 
 -- a sheet needs its level
-abbrev pub encoding_as : Format → Option Level → Option Encoding
+abbrev pub encoding_as : Format → Option Ratio → Option Encoding
 encoding_as formats.Text alpha = Some text
 encoding_as formats.Csv alpha = option_map csv alpha
 encoding_as formats.Json alpha = Some json

@@ -2,7 +2,6 @@ pub mod Asked
 pub mod Counts
 pub mod Given
 pub mod Graphs
-pub mod Levels
 pub mod Table
 pub mod WordBytes
 pub mod WordParts

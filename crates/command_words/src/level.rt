@@ -1,13 +1,13 @@
 //! The level of a sheet.
 ghost use Rattle.std.specs.Prelude.{◌≡◌};
-ghost use Rattle.std.specs.Option.{option_map};
-ghost use Rattle.command_words.specs.Levels.{level_of, level_in};
+ghost use Rattle.std.specs.Result.{result_ok};
+ghost use Rattle.fraction.specs.Numerals.{numeral_of};
 
 use fraction::Fraction;
 
 /// Returns the level that a text spells.
 pub(crate) fn level_spelt(text: &str) -> Option<Fraction>
-    ensures { option_map level_of result ≡ level_in text.now }
+    ensures { result ≡ result_ok (numeral_of text.now) }
 {
     Fraction::parse(text.as_bytes()).ok()
 }

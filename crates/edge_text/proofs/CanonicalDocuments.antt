@@ -19,7 +19,7 @@ use Rattle.case_model.specs.declared.inputs.Inputs.{Inputs}
 use Rattle.case_model.specs.declared.inputs.Inputs.TheVariants.{Bare, Single, Staged}
 use Rattle.case_model.specs.declared.inputs.Stages.{Stages}
 use Rattle.case_model.specs.Content.{Content, is_alone}
-use Rattle.case_model.specs.ValidDraft.{Each}
+use Rattle.case_model.specs.Validity.{Each}
 use Rattle.case_model.proofs.Holding.{both}
 use Rattle.text_lines.specs.Forms.{Leaf, Say, Line, Then, May, Many, texts_seen}
 use Rattle.text_lines.specs.Kinds.{behind, more_lines, each_of}

@@ -13,7 +13,7 @@ use Rattle.std.proofs.lemmas.Slice.Eq.{bytes_eq-Decides}
 use Rattle.field_core.specs.declared.ratio.Ratio.{Ratio}
 use Rattle.case_model.specs.Draft.{is_short}
 use Rattle.case_model.specs.Names.{position_of}
-use Rattle.case_model.specs.ValidDraft.{Each, EachTwo}
+use Rattle.case_model.specs.Validity.{Each, EachTwo}
 use Rattle.case_model.specs.Entries.{is_zero_entry}
 use Rattle.text_lines.specs.Spelling.{line_spelt, text_of, IsWord, IsLine, numbered}
 use Rattle.text_lines.specs.Lines.{rows_of, texts_in}

@@ -10,7 +10,7 @@ use Rattle.case_model.specs.declared.draft_stages.Arrival.{Arrival}
 use Rattle.case_model.specs.declared.spend.Spend.{Spend}
 use Rattle.case_model.specs.declared.spend.Spend.TheVariants.{Shares, Table}
 use Rattle.case_model.specs.declared.spend_step.SpendStep.{SpendStep}
-use Rattle.case_model.specs.ValidDraft.{Each}
+use Rattle.case_model.specs.Validity.{Each}
 use Rattle.text_lines.specs.Forms.{Say, Line, Then}
 use Rattle.text_lines.specs.Kinds.{behind, more_lines, each_after}
 use Rattle.text_lines.specs.Spelling.{line_spelt, IsWord, IsLine}

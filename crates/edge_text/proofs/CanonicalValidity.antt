@@ -1,40 +1,25 @@
--- The draft that the canonical text of a case says has no fault.
-use Rattle.std.proofs.Common.{◌≡◌, ◌≢◌, refl, sym, ap, ap₂, subst, ◌∙◌, ℕ, zero, suc, ◌+◌, ◌*◌, ◌/◌, ◌%◌, ◌<◌}
-use Rattle.std.proofs.Common.{◌≤◌, ◌==◌, inl, inr, List, [], ◌∷◌, length, map, get_or, slice_get, Bool, true, false, if◌then◌else◌}
-use Rattle.std.proofs.Common.{Option, Some, None, is_some, is_none, arith}
-use mathlib.Core.Bool.{Bool-set}
-use Rattle.std.proofs.Math.Logic.{∥∥₁_elim}
+-- The draft that the canonical text of a case says has the content of the case, and no fault.
+use Rattle.std.proofs.Common.{◌≡◌, refl, sym, ap, subst, ◌∙◌, ℕ, zero, suc, ◌+◌, ◌*◌, ◌/◌, ◌%◌, ◌<◌, ◌==◌, inl, inr, List, [], ◌∷◌}
+use Rattle.std.proofs.Common.{length, map, get_or, slice_get, nat_lt, Bool, true, false, Option, Some, None, arith}
+use Rattle.std.proofs.Math.Nat.{div-lt_iff_lt-mul}
+use Rattle.std.proofs.lemmas.Bool.{and_from}
 use Rattle.std.proofs.lemmas.Bool.Decides.{nat_tests}
 use Rattle.std.proofs.lemmas.List.{length-map}
-use Rattle.std.proofs.lemmas.List.FromFn.{get_or-map-range_with_len}
 use Rattle.std.proofs.lemmas.Option.{slice_get-map}
-use Rattle.std.specs.List.{find, list_all, list_any}
+use Rattle.std.specs.List.{list_all}
 use Rattle.std.specs.Option.{option_map, option_map_or}
-use Rattle.field_core.specs.Arithmetic.{number_one}
-use Rattle.field_core.specs.NumberField.{number_field}
-use Rattle.field_core.specs.Order.{◌≤ε◌}
-use Rattle.field_core.specs.Sums.{sum_below}
 use Rattle.field_core.specs.declared.ratio.Ratio.{Ratio}
-use Rattle.fraction.specs.View.{number_of}
-use Rattle.case_model.specs.declared.draft.Draft.{Draft}
-use Rattle.case_model.specs.declared.draft_component.DraftComponent.{DraftComponent}
 use Rattle.case_model.specs.declared.draft_edge.DraftEdge.{DraftEdge}
-use Rattle.case_model.specs.declared.draft_stages.DraftStages.{DraftStages}
 use Rattle.case_model.specs.declared.inputs.Inputs.{Inputs}
 use Rattle.case_model.specs.declared.inputs.Inputs.TheVariants.{Bare, Single, Staged}
-use Rattle.case_model.specs.Draft.{has_ends, is_short_p_value, is_p_value, is_unit, ArePValues}
-use Rattle.case_model.specs.Entries.{no_edge, entry_at, entry_value, is_zero_entry}
-use Rattle.case_model.specs.Content.{Content, content_of, edge_between, table_of, tabled, given, inputs_of, IfSingle, has_coefficients}
-use Rattle.case_model.specs.CaseFaults.{case_fault, written_row}
-use Rattle.case_model.specs.ValidDraft.{Each, EachTwo, SumsTo, CanSum, IsValidComponent, AreValidPlaces, IsValidDraft, HasWrittenSums}
-use Rattle.case_model.specs.Validity.{IsValidContent}
-use Rattle.case_model.proofs.Holding.{both}
-use Rattle.case_model.proofs.Faultless.{length-table_of}
-use Rattle.case_model.proofs.DraftTests.{all_each, unit_of}
-use Rattle.case_model.proofs.DraftValidity.{valid_draft, written_sums, no_fault}
-use Rattle.case_model.proofs.ValidContents.{good_inputs}
-use Rattle.case_model.proofs.ValidGraphs.{no_edge_zero}
-use Rattle.edge_text.proofs.CanonicalDrafts.{edge_at, before, edges_from, untabled, p_of, stages_in, draft_of, five, table_back}
+use Rattle.case_model.specs.Draft.{goes_between, have_known_ends, have_known_arrivals, arrives_among}
+use Rattle.case_model.specs.Entries.{no_edge, is_zero_entry}
+use Rattle.case_model.specs.Content.{Content, content_of, has_coefficients}
+use Rattle.case_model.specs.CaseFaults.{case_fault}
+use Rattle.case_model.specs.Validity.{Each, EachTwo, AreValidInputs, IsValidContent, IsOneCase}
+use Rattle.case_model.proofs.DraftTests.{each_all}
+use Rattle.case_model.proofs.DraftValidity.{no_fault}
+use Rattle.edge_text.proofs.CanonicalDrafts.{edge_at, before, edges_from, untabled, stages_in, draft_of, SomeValues, content_back}
 
 -- ---- items of lists
 
@@ -80,45 +65,6 @@ edges_each P m p (e ∷ es) h = by_test (is_zero_entry e) refl (edges_each P m (
     by_test true t rest = rest
     by_test false t rest = each_cons P (edge_at m p e) (edges_from m (p + 1) es) (h 0 p (omega arith) (omega arith) t) rest
 
--- an edge of a table that isn't 0 is one of the list from which it was made
-pub record IsListed (es : List DraftEdge) (e : DraftEdge) : Type 0 where
-  pub place : ℕ
-  pub there : slice_get es place ≡ Some e
-
-listed : (i j : ℕ) (es : List DraftEdge) → is_zero_entry (edge_between es i j) ≡ false
-    → IsListed es (record { from = i; to = j; entry = edge_between es i j })
-unfolding edge_between
-listed i j [] h = let q : true ≡ false = sym no_edge_zero ∙ h in absurd (cc)
-listed i j (e ∷ es) h = by_test (has_ends i j e) refl h (λ a. listed i j es a)
-  where
-    by_test : (b : Bool) → has_ends i j e ≡ b → is_zero_entry (option_map_or (λ e. e.entry) (if b then Some e else find (has_ends i j) es) no_edge) ≡ false
-        → (is_zero_entry (edge_between es i j) ≡ false → IsListed es (record { from = i; to = j; entry = edge_between es i j }))
-        → IsListed (e ∷ es) (record { from = i; to = j; entry = option_map_or (λ e. e.entry) (if b then Some e else find (has_ends i j) es) no_edge })
-    by_test true t a later =
-        let w = both (e.from == i) (e.to == j) t in
-        let from : e.from ≡ i = grind (arith, nat_tests, w.left) in
-        let to : e.to ≡ j = grind (arith, nat_tests, w.right) in
-        let same : e ≡ record { from = i; to = j; entry = e.entry } = ap₂ (λ x y. record { from = x; to = y; entry = e.entry }) from to in
-        record { place = 0; there = ap Some same }
-    by_test false t a later = let r = later a in record { place = suc r.place; there = r.there }
-
-table_at : (m : ℕ) (es : List DraftEdge) (q : ℕ) → q < m * m → get_or (table_of m es) q no_edge ≡ edge_between es (q / m) (q % m)
-unfolding table_of
-table_at m es q h = get_or-map-range_with_len (λ k. edge_between es (k / m) (k % m)) 0 (m * m) q q no_edge h (omega arith)
-
-kept_each : (P : DraftEdge → Type 0) (m : ℕ) (es : List DraftEdge) → Each es P → Each (edges_from m 0 (table_of m es)) P
-kept_each P m es h = edges_each P m 0 (table_of m es) here
-  where
-    here : (n q : ℕ) → 0 + n ≡ q → n < length (table_of m es) → is_zero_entry (get_or (table_of m es) n no_edge) ≡ false
-        → P (edge_at m q (get_or (table_of m es) n no_edge))
-    here n q s l a =
-        let w : n < m * m = omega (arith, length-table_of m es) in
-        let e = table_at m es n w in
-        let r = listed (n / m) (n % m) es (ap is_zero_entry (sym e) ∙ a) in
-        let there : P (edge_at m n (edge_between es (n / m) (n % m))) = h r.place (edge_at m n (edge_between es (n / m) (n % m))) r.there in
-        let same : n ≡ q = omega arith in
-        subst (λ k. P (edge_at m k (get_or (table_of m es) n no_edge))) same (subst (λ x. P (edge_at m n x)) (sym e) there)
-
 -- no two of them have the same ends
 abbrev AreApart : DraftEdge → DraftEdge → Type 0
 AreApart e f = ¬ ((e.from ≡ f.from) × (e.to ≡ f.to))
@@ -138,147 +84,66 @@ once_each m p (e ∷ es) some = by_test (is_zero_entry e) (once_each m (p + 1) e
     by_test false rest = two_cons AreApart (edge_at m p e) (edges_from m (p + 1) es)
         (edges_each (AreApart (edge_at m p e)) m (p + 1) es (λ n q s l a. apart m some p q (omega arith))) rest
 
--- ---- components
+-- a place of a table of `m` rows and columns is in one of its rows and columns
+pub place_within : (m q : ℕ) → 0 < m → q < m * m → (q / m < m) × (q % m < m)
+place_within m q some h = ((div-lt_iff_lt-mul some).1 h, omega arith)
 
-abbrev table_again : ℕ → DraftComponent → DraftComponent
-table_again m k = untabled m (tabled m k)
+edges_within : (m : ℕ) (table : List (List Ratio)) → 0 < m → length table ≡ m * m → list_all (goes_between m) (edges_from m 0 table) ≡ true
+edges_within m table some size = each_all (goes_between m) (edges_from m 0 table)
+    (edges_each (λ e. goes_between m e ≡ true) m 0 table (λ n q s l a.
+    let w = place_within m q some (omega arith) in
+    let row : q / m < m = w.0 in
+    let column : q % m < m = w.1 in
+    and_from (nat_lt (q / m) m) _ (grind (arith, nat_tests, row)) (grind (arith, nat_tests, column))))
 
-same_table : (m : ℕ) (k : DraftComponent) → 0 < m → list_all five (table_of m k.edges) ≡ true
-    → table_of m (table_again m k).edges ≡ table_of m k.edges
-same_table m k some h = table_back m some (table_of m k.edges) (length-table_of m k.edges) h
-
-valid_again : (m : ℕ) (k : DraftComponent) → 0 < m → list_all five (table_of m k.edges) ≡ true → IsValidComponent m k
-    → IsValidComponent m (table_again m k)
-valid_again m k some h v = record {
-  short_share = v.short_share;
-  share = v.share;
-  weights = v.weights;
-  short_weights = v.short_weights;
-  nonneg = v.nonneg;
-  total = v.total;
-  short_edges = kept_each _ m k.edges v.short_edges;
-  no_loop = kept_each _ m k.edges v.no_loop;
-  once = once_each m 0 (table_of m k.edges) some;
-  unit = kept_each _ m k.edges v.unit;
-  rows = subst (λ t. (i : ℕ) → i < m → sum_below number_field m (λ j. entry_value (entry_at m t i j)) ≤ε number_one)
-      (sym (same_table m k some h)) v.rows;
-}
-
-same_shares : (m : ℕ) (ks : List DraftComponent) → map (λ k. k.share) (map (untabled m) (map (tabled m) ks)) ≡ map (λ k. k.share) ks
-same_shares m [] = refl
-same_shares m (k ∷ ks) = ap (λ xs. k.share ∷ xs) (same_shares m ks)
-
-same_count : (m : ℕ) (ks : List DraftComponent) → length (map (untabled m) (map (tabled m) ks)) ≡ length ks
-same_count m ks = length-map (map (tabled m) ks) (untabled m) ∙ length-map ks (tabled m)
-
--- what holds of components with their tables made again
-all_again : (m : ℕ) (P : DraftComponent → Type 0) (ks : List DraftComponent) → list_all (λ k. list_all five k.edges) (map (tabled m) ks) ≡ true
-    → ((i : ℕ) (k : DraftComponent) → slice_get ks i ≡ Some k → list_all five (table_of m k.edges) ≡ true → P (table_again m k))
-    → Each (map (untabled m) (map (tabled m) ks)) P
-all_again m P ks h f =
-    each_map (untabled m) P (map (tabled m) ks) (λ i t e.
-    let r = mapped_from (tabled m) ks i t e in
-    subst (λ t. P (untabled m t)) r.2 (f i r.0 r.1
-    (all_each (λ k. list_all five k.edges) (map (tabled m) ks) h i (tabled m r.0)
-    (slice_get-map (tabled m) ks i ∙ ap (option_map (tabled m)) r.1))))
-
--- ---- p-values and stages
-
-some_of : (ps : List Ratio) (i : ℕ) (p : Ratio) → slice_get (map Some ps) i ≡ Some (Some p) → slice_get ps i ≡ Some p
-some_of ps i p e = let r = mapped_from Some ps i (Some p) e in r.1 ∙ ap Some (some_same r.0 p r.2)
+-- ---- inputs
 
 no_none : (ps : List Ratio) (i : ℕ) → slice_get (map Some ps) i ≡ Some None → ⊥
 no_none ps i e = let r = mapped_from Some ps i None e in let q : Path (Option Ratio) (Some r.0) None = r.2 in cc
 
-valid_places : (m : ℕ) (i : Inputs) → IfSingle i (ArePValues m) → AreValidPlaces m (p_of i)
-unfolding is_p_value
-valid_places m Bare h = record {
-  count = inl refl;
-  all = λ i j p e f. absurd (no_item i (Some p) e);
-  short = λ i p e. absurd (no_item i (Some p) e);
-  unit = λ i p e. absurd (no_item i (Some p) e);
-}
-valid_places m (Staged s) h = record {
-  count = inl refl;
-  all = λ i j p e f. absurd (no_item i (Some p) e);
-  short = λ i p e. absurd (no_item i (Some p) e);
-  unit = λ i p e. absurd (no_item i (Some p) e);
-}
-valid_places m (Single ps) h =
-    let here = λ (i : ℕ) (p : Ratio) (e : slice_get (map Some ps) i ≡ Some (Some p)). both (is_short_p_value p) (is_unit (number_of p))
-    (all_each is_p_value ps h.each i p (some_of ps i p e)) in
-    record {
-      count = inr (length-map ps Some ∙ h.count);
-      all = λ i j p e f. no_none ps j f;
-      short = λ i p e. (here i p e).left;
-      unit = λ i p e. unit_of (number_of p) (here i p e).right;
-    }
+some_values : (m : ℕ) (alpha : Ratio) (i : Inputs) → 0 < m → AreValidInputs m alpha i → SomeValues i
+some_values m alpha Bare some v = tt
+some_values m alpha (Single ps) some v = let n : length ps ≡ m = v.count in omega arith
+some_values m alpha (Staged s) some v = tt
 
--- the stages of a draft, as the draft of its content has them
-same_stages : (o : Option DraftStages) (ps : List (Option Ratio)) (s : DraftStages) → stages_in (inputs_of o ps) ≡ Some s → o ≡ Some s
-same_stages None ps s e = absurd (by_test (list_any is_some ps) e)
+known_arrivals : (m : ℕ) (alpha : Ratio) (i : Inputs) → AreValidInputs m alpha i
+    → option_map_or (λ s. list_all (arrives_among m) s.arrivals) (stages_in i) true ≡ true
+known_arrivals m alpha Bare v = refl
+known_arrivals m alpha (Single ps) v = refl
+known_arrivals m alpha (Staged s) v = each_all (arrives_among m) s.arrivals (λ k a e. let h = v.known k a e in grind (arith, nat_tests, h))
+
+one_case : (c : Content) → IsValidContent c → IsOneCase (draft_of c)
+one_case c v = by c.inputs v.inputs
   where
-    by_test : (b : Bool) → stages_in (if b then Single (given ps) else Bare) ≡ Some s → ⊥
-    by_test true e = let q : Path (Option DraftStages) None (Some s) = e in cc
-    by_test false e = let q : Path (Option DraftStages) None (Some s) = e in cc
-same_stages (Some t) ps s e = e
+    once : Each (map (untabled (length c.names)) c.components) (λ k. EachTwo k.edges AreApart)
+    once = each_map (untabled (length c.names)) (λ k. EachTwo k.edges AreApart) c.components (λ i k e. once_each (length c.names) 0 k.edges v.names.some)
 
-unmixed : (i : Inputs) (s : DraftStages) → stages_in i ≡ Some s → length (p_of i) ≡ 0
-unmixed Bare s e = refl
-unmixed (Single ps) s e = absurd (let q : Path (Option DraftStages) None (Some s) = e in cc)
-unmixed (Staged t) s e = refl
+    by : (i : Inputs) → AreValidInputs (length c.names) c.alpha i → IsOneCase (draft_of (record c { inputs = i }))
+    by Bare w = record { once = once; count = inl refl; all = λ i j p e f. no_item j None f; unmixed = λ s e. refl }
+    by (Single ps) w = record { once = once; count = inr (length-map ps Some ∙ w.count); all = λ i j p e f. no_none ps j f; unmixed = λ s e. absurd (cc e) }
+    by (Staged s) w = record { once = once; count = inl refl; all = λ i j p e f. no_item j None f; unmixed = λ s e. refl }
 
 -- ---- the draft
 
-module _ (d : Draft) (h : case_fault d ≡ None) (five_each : has_coefficients (content_of d).components ≡ true) where
+module _ (c : Content) (v : IsValidContent c) (h : has_coefficients c.components ≡ true) where
   abbrev m : ℕ
-  m = length d.names
+  m = length c.names
 
-  valid : IsValidDraft d
-  valid = valid_draft d h
+  known_ends : have_known_ends (draft_of c) ≡ true
+  unfolding have_known_ends
+  known_ends = each_all (λ k. list_all (goes_between m) k.edges) (map (untabled m) c.components)
+      (each_map (untabled m) (λ k. list_all (goes_between m) k.edges ≡ true) c.components
+      (λ i k e. edges_within m k.edges v.names.some (v.components i k e).size))
 
-  sums : HasWrittenSums d
-  sums = written_sums d h
+  known : have_known_arrivals (draft_of c) ≡ true
+  unfolding have_known_arrivals
+  known = known_arrivals m c.alpha c.inputs v.inputs
 
-  each_five : list_all (λ k. list_all five k.edges) (map (tabled m) d.components) ≡ true
-  unfolding has_coefficients content_of
-  each_five = five_each
+  pub same_content : content_of (draft_of c) ≡ c
+  same_content = content_back c v.names.some
+      (each_all (λ k. length k.edges == m * m) c.components (λ i k e. let n : length k.edges ≡ m * m = (v.components i k e).size in grind (arith, nat_tests)))
+      h (some_values m c.alpha c.inputs v.names.some v.inputs)
 
-  again_valid : IsValidDraft (draft_of (content_of d))
-  unfolding content_of
-  again_valid = record {
-    names = valid.names;
-    some = subst (λ n. 0 < n) (sym (same_count m d.components)) valid.some;
-    few = subst (λ n. n ≤ 8) (sym (same_count m d.components)) valid.few;
-    short_level = valid.short_level;
-    level = valid.level;
-    components = all_again m (IsValidComponent m) d.components each_five (λ i k e f. valid_again m k valid.names.some f (valid.components i k e));
-    shares = subst (λ xs. SumsTo xs number_one) (sym (same_shares m d.components)) valid.shares;
-    p_values = valid_places m (inputs_of d.stages d.p) (good_inputs d (valid_draft d h));
-    unmixed = λ s e. unmixed (inputs_of d.stages d.p) s e;
-    stages = λ s e. valid.stages s (same_stages d.stages d.p s e);
-  }
-
-  again_written : HasWrittenSums (draft_of (content_of d))
-  unfolding content_of
-  again_written = record {
-    shares = subst CanSum (sym (same_shares m d.components)) sums.shares;
-    weights = all_again m (λ k. CanSum k.weights) d.components each_five (λ i k e f. sums.weights i k e);
-    rows = all_again m (λ k. (i : ℕ) → i < m → written_row m (entry_at m (table_of m k.edges) i) ≢ None) d.components each_five (λ i k e f.
-        subst (λ t. (i : ℕ) → i < m → written_row m (entry_at m t i) ≢ None) (sym (same_table m k valid.names.some f)) (sums.rows i k e));
-    spends = λ s e. sums.spends s (same_stages d.stages d.p s e);
-  }
-
-  again_faultless : case_fault (draft_of (content_of d)) ≡ None
-  again_faultless = no_fault (draft_of (content_of d)) again_valid again_written
-
-none_is : {A : Type 0} (o : Option A) → is_none o ≡ true → o ≡ None
-none_is None h = refl
-none_is (Some x) h = absurd (cc)
-
--- the draft of a valid content has no fault
-pub canonical_faultless : (c : Content) → IsValidContent c → has_coefficients c.components ≡ true → case_fault (draft_of c) ≡ None
-canonical_faultless c v h =
-    none_is (case_fault (draft_of c)) (∥∥₁_elim v (Bool-set (is_none (case_fault (draft_of c))) true) (λ f.
-    let g : has_coefficients (content_of f.draft).components ≡ true = subst (λ c. has_coefficients c.components ≡ true) (sym f.content_is) h in
-    subst (λ c. is_none (case_fault (draft_of c)) ≡ true) f.content_is (ap is_none (again_faultless f.draft f.faultless g))))
+  -- the draft of a valid content has no fault
+  pub canonical_faultless : case_fault (draft_of c) ≡ None
+  canonical_faultless = no_fault (draft_of c) known_ends known (subst IsValidContent (sym same_content) v) (one_case c v)

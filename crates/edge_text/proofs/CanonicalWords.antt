@@ -18,7 +18,7 @@ use Rattle.fraction.specs.View.{number_of}
 use Rattle.fraction.proofs.ReadBack.{digits_from, read_back, spelling_bytes, spelling_some}
 use Rattle.case_model.specs.Draft.{is_name, is_name_byte, is_short, is_short_level, is_short_p_value, is_unit}
 use Rattle.case_model.specs.Sums.{terms_at, zero_ratio}
-use Rattle.case_model.specs.ValidDraft.{Each}
+use Rattle.case_model.specs.Validity.{Each}
 use Rattle.case_model.proofs.Holding.{both}
 use Rattle.text_lines.specs.Spelling.{IsPlain, IsWord}
 use Rattle.edge_expression.specs.EntryReading.{IsShallow, IsEntryText}

@@ -1,14 +1,12 @@
 pub mod Constants
 pub mod CoreTests
-pub mod ListReadings
 pub mod Quick
 pub mod ReadBack
 pub mod ReadSteps
-pub mod Readings
-pub mod Sides
 pub mod Spelled
 pub mod Stored
 pub mod TermLaws
+pub mod TextsHeld
 pub mod Units
-pub mod WholeReadings
 pub mod LimitOfNorm
+mod Texts

@@ -7,8 +7,8 @@
 //!   refused exactly if the written sum is undefined), `constant` (its denominator is a constant). `of`, `numerator`,
 //!   `denominator`.
 //! - `limit`: the limit of the quotient of two polynomials, as that of their norm.
-//! - `print`: `printed`, `unchanged`. `read`: `found`, `only` (the norm of the two polynomials that the text denotes, exactly
-//!   if it is in the grammar).
+//! - `print`: `printed`, `unchanged`. `read`: `denoted` (the norm of the two polynomials that the text denotes, exactly if it is
+//!   in the grammar).
 //! - Laws in `src/laws.rt`: `a_stored_quotient_is_its_norm`, `a_printed_quotient_reads_back`.
 #![tactic(auto)]
 

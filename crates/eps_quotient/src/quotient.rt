@@ -37,7 +37,6 @@ impl EpsQuotient {
       List as Seq,
       ℤ,
       IfSome,
-      IsSomeAnd,
       IfOk,
       OnOk,
       OnErr,
@@ -51,11 +50,11 @@ impl EpsQuotient {
     ghost use Rattle.field_core.specs.Fractions.{quotient as quotient_of};
     ghost use Rattle.eps_poly.specs.Polynomials.{IsConstant};
     ghost use Rattle.field_core.specs.View.{terms};
-    ghost use Rattle.eps_quotient.specs.Grammar.{IsQuotientText};
     ghost use Rattle.eps_quotient.specs.Lowering.{norm};
     ghost use Rattle.eps_quotient.specs.Polynomials.{polynomial_value, term, written_polynomial};
     ghost use Rattle.eps_quotient.specs.Spelling.{quotient_text};
     ghost use Rattle.eps_quotient.specs.Stored.{IsQuotient};
+    ghost use Rattle.eps_quotient.specs.Texts.{quotient_in};
     ghost use Rattle.eps_quotient.specs.View.{number_of, pair_parts, quotient_parts};
 
     /// Returns the quotient num/den as the norm of the two polynomials stores it, or `None` exactly if `den` is 0.
@@ -97,9 +96,9 @@ impl EpsQuotient {
 
     /// Reads the text of a quotient: a whole number, two numbers with a slash between them, or two lists of coefficients in
     /// brackets with a slash between them. Each number is at most 2^127 - 1 in size. Anything else gives `None`.
+    #[tactic(auto, unfolding(crate::specs::Texts::quotient_in))]
     pub fn read(text: &[u8]) -> Option<EpsQuotient>
-        ensures found { IfSome result (λ x. (n d : Seq ℤ) × IsQuotientText text.now n d × (quotient_parts x ≡ norm n d)) }
-        ensures only { (n d : Seq ℤ) → IsQuotientText text.now n d → IsSomeAnd result (λ x. quotient_parts x ≡ norm n d) }
+        ensures denoted { option_map quotient_parts result ≡ quotient_in text.now }
     {
         let (num, den) = polynomials(text)?;
         EpsQuotient::new(&num, &den)

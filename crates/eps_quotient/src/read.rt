@@ -17,10 +17,19 @@ ghost use Rattle.std.specs.Prelude.{
   IfNone,
 };
 ghost use Rattle.std.specs.Char.{is_ascii_digit};
-ghost use Rattle.std.specs.List.{All, list_all};
+ghost use Rattle.std.specs.List.{All, list_all, slice_split};
+ghost use Rattle.std.specs.Option.{option_or};
 ghost use Rattle.std.specs.Str.Parse.{digits_value};
-ghost use Rattle.eps_quotient.specs.Grammar.{AreSides, IsFraction, IsList, IsLists, IsOnly, IsOnlyPair, IsPolynomials, IsWholeText};
-ghost use Rattle.eps_quotient.specs.Reading.{number_of, polynomial_of, whole_of};
+ghost use Rattle.eps_quotient.specs.Texts.{
+  number_of,
+  whole_of,
+  polynomial_of,
+  list_in,
+  fraction_in,
+  lists_in,
+  whole_in,
+  polynomials_in,
+};
 
 use crate::pair::one;
 use eps_poly::EpsPoly;
@@ -51,7 +60,7 @@ fn size(digits: &[u8]) -> u128
 }
 
 /// Returns the number that a text of digits denotes, if it is at most 2^127 - 1.
-#[tactic(auto, unfolding(crate::specs::Reading::number_of))]
+#[tactic(auto, unfolding(crate::specs::Texts::number_of))]
 fn number(text: &[u8]) -> Option<Whole>
     ensures { result ≡ number_of text.now }
 {
@@ -66,7 +75,7 @@ fn number(text: &[u8]) -> Option<Whole>
 }
 
 /// Returns the number that digits denote, perhaps after a minus, if it is at most 2^127 - 1 in size.
-#[tactic(auto, unfolding(crate::specs::Reading::whole_of))]
+#[tactic(auto, unfolding(crate::specs::Texts::whole_of))]
 fn whole(text: &[u8]) -> Option<Whole>
     ensures { result ≡ whole_of text.now }
 {
@@ -103,7 +112,7 @@ fn inside(text: &[u8]) -> Option<&[u8]>
 
 /// Returns the polynomial whose coefficients are written with commas between them.
 fn polynomial(text: &[u8]) -> Option<EpsPoly>
-    ensures { result ≡ polynomial_of text.now }
+    ensures { result ≡ polynomial_of (slice_split (λ b. b == 44) text.now) }
 {
     let mut polynomial = EpsPoly::zero();
     let mut rest = text;
@@ -119,15 +128,16 @@ fn polynomial(text: &[u8]) -> Option<EpsPoly>
 }
 
 /// Returns the polynomial whose coefficients are in brackets.
+#[tactic(auto, using(crate::proofs::Texts::inside_found, crate::proofs::Texts::inside_none))]
 fn list(text: &[u8]) -> Option<EpsPoly>
-    ensures { IsOnly (IsList text.now) (result) }
+    ensures { result ≡ list_in text.now }
 {
     polynomial(inside(text)?)
 }
 
 /// Returns the two polynomials of a whole number over a number, both constants.
 fn fraction(over: &[u8], under: &[u8]) -> Option<(EpsPoly, EpsPoly)>
-    ensures { IsOnlyPair (IsFraction over.now under.now) result }
+    ensures { result ≡ fraction_in over.now under.now }
 {
     let num = whole(over)?;
     let den = number(under)?;
@@ -136,7 +146,7 @@ fn fraction(over: &[u8], under: &[u8]) -> Option<(EpsPoly, EpsPoly)>
 
 /// Returns the two polynomials of a list over a list.
 fn lists(over: &[u8], under: &[u8]) -> Option<(EpsPoly, EpsPoly)>
-    ensures { IsOnlyPair (IsLists over.now under.now) result }
+    ensures { result ≡ lists_in over.now under.now }
 {
     let numerator = list(over)?;
     let denominator = list(under)?;
@@ -145,7 +155,7 @@ fn lists(over: &[u8], under: &[u8]) -> Option<(EpsPoly, EpsPoly)>
 
 /// Returns the two polynomials of both sides of a slash, which are numbers or lists.
 fn sides(over: &[u8], under: &[u8]) -> Option<(EpsPoly, EpsPoly)>
-    ensures { IsOnlyPair (AreSides over.now under.now) result }
+    ensures { result ≡ option_or (fraction_in over.now under.now) (lists_in over.now under.now) }
 {
     match fraction(over, under) {
         Some(pair) => Some(pair),
@@ -155,15 +165,16 @@ fn sides(over: &[u8], under: &[u8]) -> Option<(EpsPoly, EpsPoly)>
 
 /// Returns the two polynomials of a whole number: itself, and 1.
 fn over_one(text: &[u8]) -> Option<(EpsPoly, EpsPoly)>
-    ensures { IsOnlyPair (IsWholeText text.now) result }
+    ensures { result ≡ whole_in text.now }
 {
     let number = whole(text)?;
     Some((EpsPoly::monomial(number, 0), one()))
 }
 
 /// Returns the two polynomials of a text without or with a slash, and nothing for any other text. The second may be 0.
+#[tactic(auto, unfolding(crate::specs::Texts::polynomials_in), using(crate::proofs::Texts::cut_at, crate::proofs::Texts::cut_none))]
 pub fn polynomials(text: &[u8]) -> Option<(EpsPoly, EpsPoly)>
-    ensures { IsOnlyPair (IsPolynomials text.now) result }
+    ensures { result ≡ polynomials_in text.now }
 {
     match cut(text, b'/') {
         Some((over, under)) => sides(over, under),

@@ -10,7 +10,7 @@ use Rattle.fraction.specs.Plain.{fraction_parts, fraction_stored}
 use Rattle.eps_quotient.specs.View.{quotient_parts}
 use Rattle.text_lines.specs.Spelling.{IsWord, IsLine}
 use Rattle.case_model.specs.Content.{Content}
-use Rattle.case_model.specs.ValidDraft.{Each}
+use Rattle.case_model.specs.Validity.{Each}
 use Rattle.case_model.specs.Validity.{IsValidContent}
 use Rattle.case_model.proofs.ValidContents.{shape}
 use Rattle.case_numbers.specs.Numbers.{Numbers, numbers_of, IsStoredIn, in_fractions, in_quotients}
@@ -33,7 +33,6 @@ use Rattle.evidence_check.proofs.DocumentLaws.{one_said}
 use Rattle.evidence_check.proofs.PrintedNumbers.{stored_printed}
 use Rattle.evidence_check.proofs.WrittenTexts.{text_says}
 use Rattle.evidence.specs.EvidenceText.{EvidenceTextsSayTheirs, EvidenceTextsSayNoOther, EvidenceTextsHaveNoFault, EvidenceTextsTellApart}
-use Rattle.evidence.proofs.CaseNames.{valid_names}
 use Rattle.evidence.proofs.NumberWords.{number_is_word}
 
 -- ---- all numbers are stored
@@ -172,9 +171,8 @@ module _ (n : Numbers) (c : Content) (words : Each c.names IsWord) (apart : AreD
 
 pub text_says_it : EvidenceTextsSayTheirs
 text_says_it c v valid h =
-    let names = valid_names c valid in
-    let words : Each c.names IsWord = λ i name e. name_is_word name (names.form i name e) in
-    let apart = distinct c.names names.distinct in
+    let words : Each c.names IsWord = λ i name e. name_is_word name (valid.names.form i name e) in
+    let apart = distinct c.names valid.names.distinct in
     let few = (shape c valid).few_components in
     let stored = evidence_stored c v h in
     text_says c v h

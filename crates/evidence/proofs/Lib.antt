@@ -13,6 +13,5 @@ pub mod SameGraphs
 pub mod CaseEvidence
 pub mod WriterAnswers
 pub mod NumberWords
-pub mod CaseNames
 pub mod EvidenceSaid
 pub mod MakeAnswers

@@ -25,7 +25,7 @@ use Rattle.evidence_check.specs.EvidenceLines.{number_lines, list_lines, step_li
 use Rattle.evidence_check.specs.NumberReading.{case_frame}
 use Rattle.evidence_check.specs.DocumentStatements.{evidence_text}
 use Rattle.edge_text.proofs.WrittenLines.{drop_item, moved, ended}
-use Rattle.evidence_check.proofs.CheckAnswers.{form_of, fractions_of, quotients_of}
+use Rattle.evidence_check.proofs.CheckAnswers.{of_case, form_of, fractions_of, quotients_of}
 use Rattle.evidence_check.proofs.Hypotheses.{same_hypotheses}
 use Rattle.evidence.specs.EvidenceText.{line_text}
 
@@ -215,10 +215,10 @@ module _ (c : Content) (e : Evidence) where
       → text_of
       (evidence_lines (case_frame in_fractions c) v.version (map (step_parts fraction_parts) v.steps) (map (keep_parts fraction_parts) v.keeps)) ≡ evidence_text c e
   plain_text v h I = case_text in_fractions v.version (map (step_parts fraction_parts) v.steps) (map (keep_parts fraction_parts) v.keeps)
-      (sym (fractions_of c (form_of c e (Plain v) h I).form)) ∙ ap (evidence_text c) (sym h)
+      (sym (fractions_of c (form_of c e (Plain v) h (of_case c e I)).form)) ∙ ap (evidence_text c) (sym h)
 
   pub eps_text : (v : Steps _) → e ≡ Eps v → IsEvidenceFor c e
       → text_of
       (evidence_lines (case_frame in_quotients c) v.version (map (step_parts quotient_parts) v.steps) (map (keep_parts quotient_parts) v.keeps)) ≡ evidence_text c e
   eps_text v h I = case_text in_quotients v.version (map (step_parts quotient_parts) v.steps) (map (keep_parts quotient_parts) v.keeps)
-      (sym (quotients_of c (form_of c e (Eps v) h I).form)) ∙ ap (evidence_text c) (sym h)
+      (sym (quotients_of c (form_of c e (Eps v) h (of_case c e I)).form)) ∙ ap (evidence_text c) (sym h)

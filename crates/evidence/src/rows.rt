@@ -1,32 +1,11 @@
 //! Rows of numbers, by hypothesis.
-ghost use Rattle.std.specs.Prelude.{◌≡◌, ℕ, [], Result as Answer, IfOk, map, get_or, set, replicate};
+ghost use Rattle.std.specs.Prelude.{◌≡◌, ℕ, Result as Answer, IfOk, map, set, replicate};
 ghost use Rattle.field_core.specs.declared.place.Wide.{Wide as Refused};
 ghost use Rattle.field_core.specs.Kind.{Parts, ok_map};
-ghost use Rattle.evidence_check.specs.EvidenceParts.{numbers_at};
 ghost use Rattle.evidence.specs.FlowTables.{put_each};
 
 use field_core::{List, NoMemory, Number, Wide};
 use std::alloc::Global;
-
-/// Returns the number at a place of a row, and 0 past its end.
-#[tactic(auto, unfolding(evidence_check::specs::EvidenceParts::numbers_at))]
-pub fn number<F: Number>(row: &[F], r: usize) -> F
-    ensures { F.parts result ≡ numbers_at F.kind (map F.parts row.now) r }
-{
-    if r < row.len() { row[r] } else { F::zero() }
-}
-
-/// Returns a row of a table, and an empty one past the end.
-pub fn row<F>(table: &List<List<F>>, l: usize) -> &[F]
-    ensures { result.now ≡ get_or table.now l [] }
-{
-    let rows = table.as_slice();
-    if l < rows.len() {
-        rows[l].as_slice()
-    } else {
-        &[]
-    }
-}
 
 /// Returns a row of `count` zeros.
 #[tactic(auto, using(std::proofs::lemmas::List::replicate_more, std::proofs::lemmas::List::map_push))]

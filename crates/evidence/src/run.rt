@@ -26,9 +26,9 @@ ghost use Rattle.evidence.specs.FlowStatements.{IsOpened};
 ghost use Rattle.evidence.specs.TablesView.{tables_of};
 ghost use Rattle.evidence.specs.Made.{MakesAll, written_steps};
 
-use crate::rows::{number, row};
 use crate::tables::{Tables, first_tables, tables_after};
 use entangled::Bundle;
+use evidence_check::rows::{number, row};
 use evidence_check::{KeepProof, ProofStep, Steps};
 use field_core::{Fault, List, NoMemory, Number, WideAt};
 use removal::Remover;

@@ -20,7 +20,8 @@ ghost use Rattle.evidence.specs.FlowTables.{new_tables};
 ghost use Rattle.evidence.specs.TablesView.{tables_of};
 ghost use Rattle.field_core.specs.Made.{Makes};
 
-use crate::rows::{copy, number, put, put_each, row, zeros};
+use crate::rows::{copy, put, put_each, zeros};
+use evidence_check::rows::{number, row};
 use field_core::{Fault, List, NoMemory, Number, Place, Wide};
 use removal::Remover;
 use std::alloc::Global;

@@ -27,20 +27,20 @@ use Rattle.case_numbers.proofs.Components.{is_component, place, can_run, can_loa
 use Rattle.case_numbers.proofs.LoadedNumbers.{exact_in, weight_loaded, edge_loaded}
 use Rattle.evidence_check.specs.Evidence.{KeepsOthers, listed}
 use Rattle.evidence_check.specs.EvidenceParts.{StepParts, KeepParts, step_values}
-use Rattle.evidence_check.specs.CheckSteps.{written_at, numbered}
+use Rattle.evidence_check.specs.CheckSteps.{written_at}
 use Rattle.evidence_check.specs.BrokenConditions.{IsBrokenBy}
+use Rattle.evidence_check.specs.declared.event.CheckEvent.TheVariants.{Broken}
 use Rattle.evidence_check.specs.declared.verdict.Reason.{Reason}
 use Rattle.evidence_check.specs.WrittenCheck.{written_check}
 use Rattle.evidence_check.specs.CheckStatements.{IsLoaded, AreStoredSteps}
 use Rattle.evidence_check.specs.CaseCheck.{p_values_of, IsSingle, given_or, written_edge, AllLoad, loaded_case, edge_load, row_load, component_load, all_loads}
 use Rattle.evidence_check.specs.CaseCheck.{check_in, case_check, AreStepsOf, values_in, MeetsIn}
 use Rattle.evidence_check.proofs.GoodSteps.{listed_rejected, kept_decides}
-use Rattle.evidence_check.proofs.Tells.{Tells, TellsAt, tells_bind_at, numbered_tells, all_tells_or}
+use Rattle.evidence_check.proofs.Tells.{Tells, TellsAt, tells_bind_at, numbered_tells, all_tells}
 use Rattle.evidence_check.proofs.WholeCheck.{check_tells}
-use Rattle.evidence_check.proofs.Named.{NamesAt, names_bind_at, names_numbered}
-use Rattle.evidence_check.proofs.NamedConditions.{check_named}
+use Rattle.evidence_check.proofs.BrokenNotMet.{broken_not_met}
 
-read_tells : (k : ℕ) (place : Place) (r : Result Parts TooWide) (Bad : Type 0)
+read_tells : (k : ℕ) (place : Place) (r : Result Parts TooWide) (Bad : Reason → Type 0)
     → Tells (ok_map {B = Unit {0}} (λ _. tt) (written_at k place r)) (λ _. (x : Parts) × (r ≡ Ok x)) Bad
 unfolding written_at
 read_tells k place (Ok x) Bad = record { ok = λ u h. (x, refl); bad = λ reason h. absurd (cc) }
@@ -52,22 +52,22 @@ module _ (n : Numbers) (c : Content) where
   IsLoadedEdge : ℕ → ℕ → ℕ → Type 0
   IsLoadedEdge k l j = (x : Parts) × (written_edge n c k l j ≡ Ok x)
 
-  load_tells : (k l j : ℕ) (Bad : Type 0) → Tells (edge_load n c k l j) (λ _. IsLoadedEdge k l j) Bad
+  load_tells : (k l j : ℕ) (Bad : Reason → Type 0) → Tells (edge_load n c k l j) (λ _. IsLoadedEdge k l j) Bad
   unfolding edge_load IsLoadedEdge
   load_tells k l j Bad = read_tells k (Edge l j) (written_edge n c k l j) Bad
 
-  each_load_tells : (Bad : Type 0) → Tells (all_loads n c)
+  each_load_tells : (Bad : Reason → Type 0) → Tells (all_loads n c)
       (λ _. (k : ℕ) → k < length c.components → (l : ℕ) → l < length c.names → (j : ℕ) → j < length c.names → IsLoadedEdge k l j) Bad
   unfolding all_loads component_load row_load
   each_load_tells Bad =
-      all_tells_or (length c.components) _ (λ k. (l : ℕ) → l < length c.names → (j : ℕ) → j < length c.names → IsLoadedEdge k l j) Bad
-      (λ k p. all_tells_or (length c.names) _ (λ l. (j : ℕ) → j < length c.names → IsLoadedEdge k l j) Bad
-      (λ l q. all_tells_or (length c.names) (edge_load n c k l) (IsLoadedEdge k l) Bad (λ j r. load_tells k l j Bad)))
+      all_tells (length c.components) _ (λ k. (l : ℕ) → l < length c.names → (j : ℕ) → j < length c.names → IsLoadedEdge k l j) Bad
+      (λ k p. all_tells (length c.names) _ (λ l. (j : ℕ) → j < length c.names → IsLoadedEdge k l j) Bad
+      (λ l q. all_tells (length c.names) (edge_load n c k l) (IsLoadedEdge k l) Bad (λ j r. load_tells k l j Bad)))
 
   -- where all edges are loaded, each can be
   pub loads_done : all_loads n c ≡ Ok tt → AllLoad n c
   unfolding IsLoadedEdge
-  loads_done h k l j p q r = (each_load_tells (Unit {0})).ok tt h k p l q j r
+  loads_done h k l j p q r = (each_load_tells (λ _. Unit {0})).ok tt h k p l q j r
 
 -- a case that is loaded has the values of its graph
 module _ (c : Content) (V : IsValidContent c) (n : Numbers) (P : CanRunIn n c) (A : AllLoad n c) where
@@ -97,9 +97,12 @@ module _ (c : Content) (V : IsValidContent c) where
   unfolding entangled
   same_m m e = e
 
+  abbrev IsBrokenIn : List StepParts → List KeepParts → ℕ → Reason → Type 0
+  IsBrokenIn steps keeps = IsBrokenBy (entangled c) (number_at (p_values_of c.inputs)) (number_of c.alpha) (values_in c steps keeps)
+
   rest_tells : (steps : List StepParts) (keeps : List KeepParts) → AreStepsOf c steps keeps → AllLoad (numbers_of c) c
       → TellsAt (written_check (kind_of (numbers_of c)) (loaded_case (kind_of (numbers_of c)) (numbers_of c) c) steps keeps) (λ _. MeetsIn c steps keeps)
-      (¬ MeetsIn c steps keeps)
+      (IsBrokenIn steps keeps)
   unfolding loaded_case
   rest_tells steps keeps S loaded =
       check_tells (kind_of (numbers_of c)) (IsStoredIn (numbers_of c)) (exact_in (numbers_of c)) (loaded_case (kind_of (numbers_of c)) (numbers_of c) c)
@@ -107,43 +110,22 @@ module _ (c : Content) (V : IsValidContent c) where
       (subst (λ m. AreStoredSteps (kind_of (numbers_of c)) (IsStoredIn (numbers_of c)) m steps keeps) (same_m (length c.names) refl) S)
 
   pub case_tells : (steps : List StepParts) (keeps : List KeepParts) → AreStepsOf c steps keeps
-      → TellsAt (case_check c steps keeps) (λ _. MeetsIn c steps keeps) (¬ MeetsIn c steps keeps)
+      → TellsAt (case_check c steps keeps) (λ _. MeetsIn c steps keeps) (IsBrokenIn steps keeps)
   unfolding case_check check_in
   case_tells steps keeps S =
       tells_bind_at _ (λ _. written_check (kind_of (numbers_of c)) (loaded_case (kind_of (numbers_of c)) (numbers_of c) c) steps keeps)
-      (λ _. AllLoad (numbers_of c) c) _ (¬ MeetsIn c steps keeps)
-      (numbered_tells 0 (all_loads (numbers_of c) c) _ _
+      (λ _. AllLoad (numbers_of c) c) _ (IsBrokenIn steps keeps)
+      (numbered_tells 0 (all_loads (numbers_of c) c) (λ _. AllLoad (numbers_of c) c) (IsBrokenIn steps keeps)
       (record {
         ok = λ u h. loads_done (numbers_of c) c h;
-        bad = λ reason h. (each_load_tells (numbers_of c) c (¬ MeetsIn c steps keeps)).bad reason h;
+        bad = λ reason h. absurd ((each_load_tells (numbers_of c) c (λ _. ⊥)).bad reason h);
       }))
       (λ _ loaded. rest_tells steps keeps S loaded)
 
-module _ (c : Content) (V : IsValidContent c) where
-  abbrev IsBrokenIn : List StepParts → List KeepParts → ℕ → Reason → Type 0
-  IsBrokenIn steps keeps = IsBrokenBy (entangled c) (number_at (p_values_of c.inputs)) (number_of c.alpha) (values_in c steps keeps)
-
-  rest_named : (steps : List StepParts) (keeps : List KeepParts) → AreStepsOf c steps keeps → AllLoad (numbers_of c) c
-      → NamesAt (written_check (kind_of (numbers_of c)) (loaded_case (kind_of (numbers_of c)) (numbers_of c) c) steps keeps) (IsBrokenIn steps keeps)
-  unfolding loaded_case
-  rest_named steps keeps S loaded =
-      check_named (kind_of (numbers_of c)) (IsStoredIn (numbers_of c)) (exact_in (numbers_of c)) (loaded_case (kind_of (numbers_of c)) (numbers_of c) c)
-      (entangled c) (valid_content c V) (is_loaded c V (numbers_of c) (can_run c) loaded) steps keeps
-      (subst (λ m. AreStoredSteps (kind_of (numbers_of c)) (IsStoredIn (numbers_of c)) m steps keeps) (same_m c V (length c.names) refl) S)
-
-  -- the condition that the check of a case names is broken
-  pub case_named : (steps : List StepParts) (keeps : List KeepParts) → AreStepsOf c steps keeps
-      → NamesAt (case_check c steps keeps) (IsBrokenIn steps keeps)
-  unfolding case_check check_in
-  case_named steps keeps S =
-      let loads = all_loads (numbers_of c) c in
-      names_bind_at (numbered 0 loads) (λ _. written_check (kind_of (numbers_of c)) (loaded_case (kind_of (numbers_of c)) (numbers_of c) c) steps keeps)
-      (IsBrokenIn steps keeps)
-      (names_numbered 0 loads (IsBrokenIn steps keeps)
-      (record { bad = λ reason h. absurd ((each_load_tells (numbers_of c) c ⊥).bad reason h) }))
-      (λ u e. rest_named steps keeps S
-      ((numbered_tells 0 loads (λ _. AllLoad (numbers_of c) c) ⊥
-      (record { ok = λ u h. loads_done (numbers_of c) c h; bad = λ reason h. (each_load_tells (numbers_of c) c ⊥).bad reason h })).ok u e))
+  -- a check that finds a broken condition
+  pub case_fair : (steps : List StepParts) (keeps : List KeepParts) → AreStepsOf c steps keeps → (n : ℕ) (reason : Reason)
+      → case_check c steps keeps ≡ Err (record { number = n; event = Broken reason }) → ¬ MeetsIn c steps keeps
+  case_fair steps keeps S n reason h = broken_not_met _ _ _ _ n reason ((case_tells steps keeps S).bad n reason h)
 
 in_inputs : (P : List Ratio → Type 0) (i : Inputs) → IsSingle i → P (p_values_of i) → ForSingle i P
 in_inputs P (Single ps) s h = h

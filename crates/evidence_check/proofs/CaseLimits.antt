@@ -46,7 +46,7 @@ module _ {F : Type 0} (K : Kind) (IsStored : Parts → Type 0) (X : IsExact K Is
   unfolding entangled
   brought_unit_at new A sum s =
       let G = (bring_tells K IsStored X (loaded_case K n c) (entangled c) (valid_content c V) D js o i p (numbers_at K (map parts xs))
-      (λ e. value_of (numbers_at K (map parts xs) e)) gives (Level k) k (Unit {0}) q).ok sum s in
+      (λ e. value_of (numbers_at K (map parts xs) e)) gives (Level k) k (λ _. Unit {0}) q).ok sum s in
       subst IsUnit (sym G.value)
       (level_unit K IsStored X (loaded_case K n c) (entangled c) (valid_content c V) D js o i p (numbers_at K (map parts xs))
       (λ e. value_of (numbers_at K (map parts xs) e)) gives k q new

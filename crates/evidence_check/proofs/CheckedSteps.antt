@@ -1,9 +1,9 @@
 -- The written check of a step by value.
-use Rattle.std.proofs.Common.{◌≡◌, refl, sym, ap, subst, ◌∙◌, ℕ, ◌<◌, false, not, List, length, Ok}
+use Rattle.std.proofs.Common.{◌≡◌, refl, sym, subst, ◌∙◌, ℕ, ◌<◌, false, not, List, length, Ok}
 use Rattle.std.specs.Ordering.{is_le}
 use Rattle.field_core.specs.declared.place.Place.TheVariants.{Bound, Level}
 use Rattle.field_core.specs.Number.{Number}
-use Rattle.field_core.specs.Arithmetic.{number_zero}
+use Rattle.field_core.specs.Arithmetic.{number_zero, ◌*ε◌}
 use Rattle.field_core.specs.Order.{◌≤ε◌, IsPositive}
 use Rattle.field_core.specs.Field.{not_less}
 use Rattle.field_core.specs.NumberField.{number_field}
@@ -20,10 +20,12 @@ use Rattle.case_model.specs.ClosedTest.{Passes}
 use Rattle.case_model.specs.TextbookRules.{does_pass}
 use Rattle.case_model.proofs.PassTests.{pass_tested, tested_pass}
 use Rattle.case_model.proofs.RejectionOrders.{not_listed_left}
-use Rattle.case_model.proofs.NoFaults.{not_true}
+use Rattle.case_model.proofs.NoFaults.{not_true, not_false}
 use Rattle.evidence_check.specs.Evidence.{at_place, brought, shared, AreFlows, IsGoodStep}
 use Rattle.evidence_check.specs.EvidenceParts.{StepParts, part_at, step_values}
 use Rattle.evidence_check.specs.CheckSteps.{require, written_at, all_below}
+use Rattle.evidence_check.specs.BrokenConditions.{IsBrokenStep}
+use Rattle.evidence_check.specs.declared.verdict.Reason.{Reason}
 use Rattle.evidence_check.specs.declared.verdict.Reason.TheVariants.{Repeated, Negative, Exceeds, NoLevel, AboveLevel}
 use Rattle.evidence_check.specs.WrittenCheck.{Loaded, is_above_zero, level_by, brought_sum, flow_check, level_limit, step_check}
 use Rattle.evidence_check.specs.CheckStatements.{IsLoaded}
@@ -47,27 +49,28 @@ module _ (K : Kind) (IsStored : Parts → Type 0) (X : IsExact K IsStored) (L : 
       abbrev FlowFits : ℕ → Type 0
       FlowFits r = (number_zero ≤ε v r) × (v r ≤ε brought (E.graph c) js v (at_place js r))
 
-      flow_tells : (r : ℕ) → r < length js → Tells (flow_check K L js y c r) (λ _. FlowFits r) (¬ FlowFits r)
+      -- `Bad` holds of the reason whose condition a flow breaks
+      flow_tells : (Bad : Reason → Type 0) (r : ℕ) → r < length js → (¬ (number_zero ≤ε v r) → Bad (Negative c r))
+          → (¬ (v r ≤ε brought (E.graph c) js v (at_place js r)) → Bad (Exceeds c r)) → Tells (flow_check K L js y c r) (λ _. FlowFits r) Bad
       unfolding flow_check
-      flow_tells r p =
+      flow_tells Bad r p low high =
           let place = Bound (at_place js r) in
-          tells_bind (require (not_less (sign_of (y r))) (Negative c r)) _ (λ _. number_zero ≤ε v r) _ (¬ FlowFits r)
-          (tells_if (require (not_less (sign_of (y r))) (Negative c r)) _ _ _ _ (λ _ g. g) (λ b f. b f.0)
-          (sign_tells K IsStored X (y r) (v r) (Negative c r) (Y r)))
-          (λ _ low. tells_bind (brought_sum K L js place y (at_place js r) c) _ (λ x. Gives IsStored x (brought (E.graph c) js v (at_place js r))) _
-          (¬ FlowFits r)
-          (bring_tells K IsStored X L E V D js o c q y v Y place (at_place js r) (¬ FlowFits r) (here K IsStored X L E V D js o r p))
-          (λ sum S. tells_bind (written_at c place (K.compare (y r) sum)) _ (λ order. K.compare (y r) sum ≡ Ok order) _ (¬ FlowFits r)
-          (written_tells c place (K.compare (y r) sum) (¬ FlowFits r))
+          tells_bind (require (not_less (sign_of (y r))) (Negative c r)) _ (λ _. number_zero ≤ε v r) _ Bad
+          (sign_tells K IsStored X (y r) (v r) (Negative c r) Bad (Y r) low)
+          (λ _ nonneg. tells_bind (brought_sum K L js place y (at_place js r) c) _ (λ x. Gives IsStored x (brought (E.graph c) js v (at_place js r))) _ Bad
+          (bring_tells K IsStored X L E V D js o c q y v Y place (at_place js r) Bad (here K IsStored X L E V D js o r p))
+          (λ sum S. tells_bind (written_at c place (K.compare (y r) sum)) _ (λ order. K.compare (y r) sum ≡ Ok order) _ Bad
+          (written_tells c place (K.compare (y r) sum) Bad)
           (λ order e.
           let t = compared K IsStored X (y r) sum (v r) (brought (E.graph c) js v (at_place js r)) order (Y r) S e in
-          require_tells (is_le order) (Exceeds c r) (FlowFits r) (λ h. (low, sym t ∙ h)) (λ h f. true_false _ f.1 (sym t ∙ h)))))
+          require_tells (is_le order) (Exceeds c r) (FlowFits r) Bad (λ h. (nonneg, sym t ∙ h)) (λ h. high (λ f. true_false _ f (sym t ∙ h))))))
 
-      pub flows_tell : Tells (all_below (length js) (flow_check K L js y c)) (λ _. AreFlows (E.graph c) js v) (¬ AreFlows (E.graph c) js v)
-      flows_tell =
-          tells_if (all_below (length js) (flow_check K L js y c)) _ _ _ _ (λ _ all. record { nonneg = λ r p. (all r p).0; within = λ r p. (all r p).1 })
-          (λ b A. b (λ r p. (A.nonneg r p, A.within r p)))
-          (all_tells (length js) (flow_check K L js y c) FlowFits flow_tells)
+      pub flows_tell : (Bad : Reason → Type 0) → ((r : ℕ) → r < length js → ¬ (number_zero ≤ε v r) → Bad (Negative c r))
+          → ((r : ℕ) → r < length js → ¬ (v r ≤ε brought (E.graph c) js v (at_place js r)) → Bad (Exceeds c r))
+          → Tells (all_below (length js) (flow_check K L js y c)) (λ _. AreFlows (E.graph c) js v) Bad
+      flows_tell Bad low high =
+          tells_if (all_below (length js) (flow_check K L js y c)) _ _ _ (λ _ all. record { nonneg = λ r p. (all r p).0; within = λ r p. (all r p).1 })
+          (all_tells (length js) (flow_check K L js y c) FlowFits Bad (λ r p. flow_tells Bad r p (low r p) (high r p)))
 
       -- what flows bring to a hypothesis that isn't listed is from 0 to 1
       pub level_unit : (k : ℕ) → k < E.hypotheses → set_of js k ≡ false → AreFlows (E.graph c) js v → IsUnit (brought (E.graph c) js v k)
@@ -76,7 +79,7 @@ module _ (K : Kind) (IsStored : Parts → Type 0) (X : IsExact K IsStored) (L : 
           let W = weight_exists number_field E.hypotheses (E.graph c) (V.graph c q) (left_after whole js) k i in
           brought_unit E.hypotheses (E.graph c) (V.graph c q) js o v k W.0 A i W.1
 
-      pub limit_tells : (k : ℕ) (Bad : Type 0) → k < E.hypotheses → set_of js k ≡ false → AreFlows (E.graph c) js v
+      pub limit_tells : (k : ℕ) (Bad : Reason → Type 0) → k < E.hypotheses → set_of js k ≡ false → AreFlows (E.graph c) js v
           → Tells (level_limit K L js y k c) (λ x. Gives IsFraction x (limit (brought (E.graph c) js v k))) Bad
       unfolding level_limit
       limit_tells k Bad p f A =
@@ -98,50 +101,50 @@ module _ (K : Kind) (IsStored : Parts → Type 0) (X : IsExact K IsStored) (L : 
       abbrev Good : Type 0
       Good = IsGoodStep E L.p L.alpha js (step_values K s)
 
+      abbrev Bad : Reason → Type 0
+      Bad = IsBrokenStep E L.p L.alpha js (step_values K s)
+
       abbrev AllFlows : Type 0
       AllFlows = (c : ℕ) → c < L.components → AreFlows (E.graph c) js (value c)
 
-      pub all_flows_tell : Tells (all_below L.components (λ c. all_below (length js) (flow_check K L js (part_at K s.flows c) c))) (λ _. AllFlows)
-          (¬ AllFlows)
+      pub all_flows_tell : Tells (all_below L.components (λ c. all_below (length js) (flow_check K L js (part_at K s.flows c) c))) (λ _. AllFlows) Bad
       all_flows_tell =
           all_tells L.components (λ c. all_below (length js) (flow_check K L js (part_at K s.flows c) c))
-          (λ c. AreFlows (E.graph c) js (λ e. value_of (part_at K s.flows c e)))
-          (λ c q. flows_tell c (within c q) (part_at K s.flows c) (value c) (Y_gives c))
+          (λ c. AreFlows (E.graph c) js (λ e. value_of (part_at K s.flows c e))) Bad
+          (λ c q. flows_tell c (within c q) (part_at K s.flows c) (value c) (Y_gives c) Bad
+          (λ r p b. (within c q, p, b)) (λ r p b. (within c q, p, b)))
 
-      pub bringing_tells : (new : set_of js s.hypothesis ≡ false) (flows : AllFlows) (Bad : Type 0)
+      pub bringing_tells : (new : set_of js s.hypothesis ≡ false) (flows : AllFlows)
           → Tells (level_by L s.hypothesis (λ c. level_limit K L js (part_at K s.flows c) s.hypothesis c)) (λ t. Gives IsFraction t (shared E bringing)) Bad
-      bringing_tells new flows Bad =
-          tells_if (level_by L s.hypothesis (λ c. level_limit K L js (part_at K s.flows c) s.hypothesis c)) _ _ _ _ (λ t g. g.0) (λ b. b)
+      bringing_tells new flows =
+          tells_if (level_by L s.hypothesis (λ c. level_limit K L js (part_at K s.flows c) s.hypothesis c)) _ _ _ (λ t g. g.0)
           (level_tells K IsStored X L E V D s.hypothesis (λ c. level_limit K L js (part_at K s.flows c) s.hypothesis c) (λ c. limit (bringing c))
           (λ _. Unit {0}) Bad
-          (λ c q. tells_if (level_limit K L js (part_at K s.flows c) s.hypothesis c) _ _ _ _ (λ x g. (g, tt)) (λ b. b)
+          (λ c q. tells_if (level_limit K L js (part_at K s.flows c) s.hypothesis c) _ _ _ (λ x g. (g, tt))
           (limit_tells c (within c q) (part_at K s.flows c) (value c) (Y_gives c) s.hypothesis Bad s_in new (flows c q))))
 
-      pub step_tells : Tells (step_check K L js s) (λ _. Good) (¬ Good)
+      pub step_tells : Tells (step_check K L js s) (λ _. Good) Bad
       unfolding step_check
       step_tells =
-          tells_bind (require (not (set_of js s.hypothesis)) Repeated) _ (λ _. set_of js s.hypothesis ≡ false) _ (¬ Good)
-          (tells_if (require (not (set_of js s.hypothesis)) Repeated) _ _ _ _ (λ _ g. g) (λ b g. b g.new)
-          (require_tells (not (set_of js s.hypothesis)) Repeated (set_of js s.hypothesis ≡ false) (λ h. not_true (set_of js s.hypothesis) h)
-          (λ h e. true_false _ (ap not e) h)))
-          (λ _ new. tells_bind (all_below L.components (λ c. all_below (length js) (flow_check K L js (part_at K s.flows c) c))) _ (λ _. AllFlows) _
-          (¬ Good)
-          (tells_if (all_below L.components (λ c. all_below (length js) (flow_check K L js (part_at K s.flows c) c))) _ _ _ _ (λ _ g. g)
-          (λ b g. b (λ c q. g.flows c (within c q))) all_flows_tell)
+          tells_bind (require (not (set_of js s.hypothesis)) Repeated) _ (λ _. set_of js s.hypothesis ≡ false) _ Bad
+          (require_tells (not (set_of js s.hypothesis)) Repeated (set_of js s.hypothesis ≡ false) Bad (λ h. not_true (set_of js s.hypothesis) h)
+          (λ h. not_false (set_of js s.hypothesis) h))
+          (λ _ new. tells_bind (all_below L.components (λ c. all_below (length js) (flow_check K L js (part_at K s.flows c) c))) _ (λ _. AllFlows) _ Bad
+          all_flows_tell
           (λ _ flows. tells_bind (level_by L s.hypothesis (λ c. level_limit K L js (part_at K s.flows c) s.hypothesis c)) _
-          (λ t. Gives IsFraction t (shared E bringing)) _ (¬ Good)
-          (bringing_tells new flows (¬ Good))
-          (λ level T. tells_bind (require (is_above_zero (value_of level)) NoLevel) _ (λ _. IsPositive (value_of level)) _ (¬ Good)
-          (tells_if (require (is_above_zero (value_of level)) NoLevel) _ _ _ _ (λ _ g. g) (λ b g. b (subst IsPositive (sym T.value) g.passes.positive))
-          (require_tells (is_above_zero (value_of level)) NoLevel (IsPositive (value_of level)) (positive_test (value_of level))
-          (test_positive (value_of level))))
-          (λ _ positive. tells_if (require (does_pass (L.p s.hypothesis) (value_of level) L.alpha) AboveLevel) _ _ _ _
+          (λ t. Gives IsFraction t (shared E bringing)) _ Bad
+          (bringing_tells new flows)
+          (λ level T. tells_bind (require (is_above_zero (value_of level)) NoLevel) _ (λ _. IsPositive (value_of level)) _ Bad
+          (require_tells (is_above_zero (value_of level)) NoLevel (IsPositive (value_of level)) Bad (positive_test (value_of level))
+          (λ h g. test_positive (value_of level) h (subst IsPositive (sym T.value) g)))
+          (λ _ positive. tells_if (require (does_pass (L.p s.hypothesis) (value_of level) L.alpha) AboveLevel) _ _ _
           (λ _ passes. record {
             below = s_in;
             new = new;
             flows = λ c q. flows c (back c q);
             passes = subst (λ u. Passes (L.p s.hypothesis) u L.alpha) T.value passes;
           })
-          (λ b g. b (subst (λ u. Passes (L.p s.hypothesis) u L.alpha) (sym T.value) g.passes))
-          (require_tells (does_pass (L.p s.hypothesis) (value_of level) L.alpha) AboveLevel (Passes (L.p s.hypothesis) (value_of level) L.alpha)
-          (tested_pass _ _ _) (λ h g. true_false _ (pass_tested _ _ _ g) h))))))
+          (require_tells (does_pass (L.p s.hypothesis) (value_of level) L.alpha) AboveLevel (Passes (L.p s.hypothesis) (value_of level) L.alpha) Bad
+          (tested_pass _ _ _)
+          (λ h g. true_false _ (pass_tested _ _ _ (record { positive = positive; small = subst (λ u. L.p s.hypothesis ≤ε (u *ε L.alpha)) (sym T.value) g }))
+          h))))))

@@ -14,6 +14,7 @@ use Rattle.field_core.specs.Kind.{Parts, Kind}
 use Rattle.field_core.specs.Exact.{IsExact, Gives, value_of}
 use Rattle.field_core.specs.Steps.{each_below}
 use Rattle.evidence_check.specs.declared.event.CheckEvent.{CheckEvent}
+use Rattle.evidence_check.specs.declared.verdict.Reason.{Reason}
 use Rattle.field_core.specs.Laws.NumberLaws.{number_add_comm, number_add_zero}
 use Rattle.fraction.specs.Plain.{plain, single, IsFraction}
 use Rattle.fraction.specs.Laws.PlainLaws.{plain_is_exact}
@@ -43,19 +44,19 @@ module _ (K : Kind) (IsStored : Parts → Type 0) (X : IsExact K IsStored) where
 
   module _ (L : Loaded) (E : EntangledGraph) (V : IsValidEntangled E) (D : IsLoaded IsStored L E) where
     -- shared sums
-    pub shared_tells : (k : ℕ) (limits : List Parts) (v : ℕ → Number) (Bad : Type 0) → AreEach L.components (λ c x. Gives IsFraction x (v c)) limits
+    pub shared_tells : (k : ℕ) (limits : List Parts) (v : ℕ → Number) (Bad : Reason → Type 0) → AreEach L.components (λ c x. Gives IsFraction x (v c)) limits
         → Tells (shared_sum L k limits) (λ t. Gives IsFraction t (sum_below number_field E.components (λ c. E.share c *ε v c))) Bad
     unfolding shared_sum numbers_at
     shared_tells k limits v Bad S =
-        tells_if (shared_sum L k limits) _ _ _ _
-        (λ t G. subst (Gives IsFraction t) (zero_first _ ∙ ap (λ n. sum_below number_field n (λ c. E.share c *ε v c)) D.components) G) (λ b. b)
+        tells_if (shared_sum L k limits) _ _ _
+        (λ t G. subst (Gives IsFraction t) (zero_first _ ∙ ap (λ n. sum_below number_field n (λ c. E.share c *ε v c)) D.components) G)
         (added_tells plain IsFraction plain_is_exact (λ c. c) (Level k) plain.zero L.share (numbers_at plain limits) number_zero E.share v L.components Bad
         (record { stored = plain_is_exact.zero_stored; value = plain_is_exact.zero_value })
         (λ c p. D.share c (subst (λ n. c < n) D.components p))
         (λ c p. S.each c plain.zero p))
 
     -- levels, where each limit is found with what is said of its component
-    pub level_tells : (k : ℕ) (f : ℕ → Result Parts CheckEvent) (v : ℕ → Number) (P : ℕ → Type 0) (Bad : Type 0)
+    pub level_tells : (k : ℕ) (f : ℕ → Result Parts CheckEvent) (v : ℕ → Number) (P : ℕ → Type 0) (Bad : Reason → Type 0)
         → ((c : ℕ) → c < L.components → Tells (f c) (λ x. Gives IsFraction x (v c) × P c) Bad)
         → Tells (level_by L k f) (λ t. Gives IsFraction t (sum_below number_field E.components (λ c. E.share c *ε v c))
         × ((c : ℕ) → c < L.components → P c)) Bad
@@ -63,7 +64,7 @@ module _ (K : Kind) (IsStored : Parts → Type 0) (X : IsExact K IsStored) where
     level_tells k f v P Bad each =
         tells_bind (each_below L.components f) (λ limits. shared_sum L k limits) (AreEach L.components (λ c x. Gives IsFraction x (v c) × P c)) _ Bad
         (each_tells L.components f (λ c x. Gives IsFraction x (v c) × P c) Bad each)
-        (λ limits S. tells_if (shared_sum L k limits) _ _ _ _ (λ t G. (G, λ c p. (S.each c plain.zero p).1)) (λ b. b)
+        (λ limits S. tells_if (shared_sum L k limits) _ _ _ (λ t G. (G, λ c p. (S.each c plain.zero p).1))
         (shared_tells k limits v Bad (record { count = S.count; each = λ c d p. (S.each c d p).0 })))
 
     module _ (js : List ℕ) (o : IsOrder E.hypotheses whole js) where
@@ -71,7 +72,7 @@ module _ (K : Kind) (IsStored : Parts → Type 0) (X : IsExact K IsStored) where
       here r p = place_below E.hypotheses js whole o r p
 
       pub bring_tells : (c : ℕ) → c < E.components → (y : ℕ → Parts) (v : ℕ → Number) → ((e : ℕ) → Gives IsStored (y e) (v e))
-          → (place : Place) (k : ℕ) (Bad : Type 0) → k < E.hypotheses
+          → (place : Place) (k : ℕ) (Bad : Reason → Type 0) → k < E.hypotheses
           → Tells (brought_sum K L js place y k c) (λ x. Gives IsStored x (brought (E.graph c) js v k)) Bad
       unfolding brought brought_sum
       bring_tells c q y v Y place k Bad p =
@@ -80,7 +81,7 @@ module _ (K : Kind) (IsStored : Parts → Type 0) (X : IsExact K IsStored) where
           (D.weight c k q p) (λ e _. Y e) (λ e h. D.edge c (at_place js e) k q (here e h) p)
 
       pub leave_tells : (c : ℕ) → c < E.components → (k : ℕ) → k < E.hypotheses → (h : ℕ → Parts) (v : ℕ → Number)
-          → ((e : ℕ) → Gives IsStored (h e) (v e)) → (r : ℕ) (Bad : Type 0) → r < length js
+          → ((e : ℕ) → Gives IsStored (h e) (v e)) → (r : ℕ) (Bad : Reason → Type 0) → r < length js
           → Tells (leaving_sum K L js h k c r) (λ x. Gives IsStored x (leaving (E.graph c) js v k (at_place js r))) Bad
       unfolding leaving leaving_sum
       leave_tells c q k i h v H r Bad p =
@@ -90,7 +91,7 @@ module _ (K : Kind) (IsStored : Parts → Type 0) (X : IsExact K IsStored) where
           (D.edge c l k q (here r p) i) (λ e g. D.edge c l (at_place js e) q (here r p) (here e g)) (λ e _. H e)
 
       pub allow_tells : (c : ℕ) → c < E.components → (k : ℕ) → k < E.hypotheses → (h : ℕ → Parts) (v : ℕ → Number)
-          → ((e : ℕ) → Gives IsStored (h e) (v e)) → (Bad : Type 0)
+          → ((e : ℕ) → Gives IsStored (h e) (v e)) → (Bad : Reason → Type 0)
           → Tells (allowed_sum K L js h k c) (λ x. Gives IsStored x (allowed (E.graph c) js v k)) Bad
       unfolding allowed allowed_sum
       allow_tells c q k i h v H Bad =

@@ -8,10 +8,7 @@ pub mod CheckedSums
 pub mod CheckedSteps
 pub mod CheckedKeeps
 pub mod WholeCheck
-pub mod Named
-pub mod NamedSteps
-pub mod NamedKeeps
-pub mod NamedConditions
+pub mod BrokenNotMet
 pub mod CaseChecked
 pub mod AllSteps
 pub mod AddedSteps
@@ -27,12 +24,11 @@ pub mod StepAnswers
 pub mod LimitAnswers
 pub mod StepsAnswers
 pub mod CheckAnswers
-pub mod FitAnswers
+pub mod Others
 pub mod NumberAnswers
 pub mod ReadAnswers
 pub mod ReadWhole
 pub mod DocumentFits
-pub mod NumberFound
 pub mod TypedNumbers
 pub mod SaidEvidence
 pub mod DocumentLaws

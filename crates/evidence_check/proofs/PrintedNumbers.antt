@@ -1,6 +1,5 @@
 -- Stored numbers are read from their texts.
-use Rattle.std.proofs.Common.{◌≡◌, ◌≢◌, refl, sym, ap, ap₂, subst, ◌∙◌, inl, inr, ℕ, Bool, true, false, List, [], ◌∷◌, Option, Some}
-use Rattle.std.proofs.Common.{None, arith}
+use Rattle.std.proofs.Common.{◌≡◌, ◌≢◌, refl, sym, ap, ap₂, subst, ◌∙◌, inl, inr, ℕ, Bool, true, false, List, [], ◌∷◌, Some, arith}
 use Rattle.std.specs.Prelude.{◌==◌, ◌||◌, ℤ, pos}
 use Rattle.std.specs.List.{list_any, AllByRecursion}
 use Rattle.std.proofs.lemmas.Bool.Decides.{Decides-eqb}
@@ -19,19 +18,14 @@ use Rattle.eps_poly.specs.Written.{degree}
 use Rattle.eps_poly.proofs.DegreeLaws.{degree_at_most}
 use Rattle.eps_quotient.specs.Polynomials.{term}
 use Rattle.eps_quotient.specs.Spelling.{quotient_text}
-use Rattle.eps_quotient.specs.Stored.{IsQuotient}
 use Rattle.eps_quotient.specs.Laws.Multiples.{monomial-at, monomial-other}
-use Rattle.eps_quotient.specs.Laws.NormAgain.{norm_again}
 use Rattle.eps_quotient.proofs.ReadBack.{reads_back}
 use Rattle.eps_quotient.proofs.TermLaws.{term_stored}
+use Rattle.eps_quotient.specs.Texts.{quotient_in}
 use Rattle.case_numbers.specs.Numbers.{in_fractions, in_quotients}
-use Rattle.evidence_check.specs.NumberTexts.{IsTextOf, IsConstantOf, IsPlainTextOf, IsNumberOf}
-use Rattle.evidence_check.specs.NumberReading.{quotient_in, fraction_of_text}
+use Rattle.evidence_check.specs.NumberReading.{constant_fraction, fraction_of_text}
 use Rattle.evidence_check.specs.DocumentStatements.{StoredNumbersArePrinted}
-use Rattle.evidence_check.proofs.NumberFound.{quotient_once, plain_is}
-
-text_of_quotient : (x : Parts) → IsQuotient x → IsTextOf (quotient_text x) x
-text_of_quotient x q = record { numerator = x.numerator; denominator = x.denominator; spelt = reads_back x q; stored = sym (norm_again x q) }
+use Rattle.evidence_check.proofs.NumberAnswers.{fraction_some, plain_read}
 
 -- ---- fractions
 
@@ -73,40 +67,20 @@ module _ (x : Parts) (f : IsFraction x) where
   short (inl h) = let p = f.reduced.num_size in omega arith
   short (inr h) = let p = f.reduced.den_size in omega arith
 
-  constant : IsConstantOf (term 0 (pair_of x)) x
+  constant : constant_fraction (term 0 (pair_of x)) ≡ Some x
   unfolding term
-  constant = record {
-    nonzero = λ e. nonzero (sym (num_at (pair_of x).den) ∙ e);
-    short = λ w. short (subst HasWidePart lowest w);
-    lowest = f.shape ∙ ap single (sym lowest);
-  }
+  constant =
+      fraction_some (coefficient (monomial (pair_of x).num 0) 0) (coefficient (monomial (pair_of x).den 0) 0)
+      (λ e. nonzero (sym (num_at (pair_of x).den) ∙ e)) (λ w. short (subst HasWidePart lowest w))
+      ∙ ap (λ t. Some (single t)) lowest ∙ ap Some (sym f.shape)
 
-  plain_text : IsPlainTextOf (spelling (pair_of x)) x
-  plain_text = record {
-    no_bracket = no_bracket (spelling (pair_of x)) (spelling_bytes (pair_of x) f.reduced);
-    quotient = term 0 (pair_of x);
-    says = subst (λ s. IsTextOf s (term 0 (pair_of x))) (term_text (pair_of x))
-        (text_of_quotient (term 0 (pair_of x)) (term_stored 0 (pair_of x) (omega arith) f.reduced));
-    constant = constant;
-  }
-
-same_some : (x y : Parts) (r : Option Parts) → r ≡ Some x → r ≡ Some y → x ≡ y
-same_some x y r e f = cc
-
--- a text has one fraction
-plain_once : (text : List ℕ) (x z : Parts) → IsPlainTextOf text x → IsPlainTextOf text z → z ≡ x
-plain_once text x z p q =
-    q.constant.lowest ∙ ap (λ y. single (lowest_terms (coefficient y.numerator 0) (coefficient y.denominator 0)))
-    (same_some q.quotient p.quotient (quotient_in text) (quotient_once text q.quotient q.says) (quotient_once text p.quotient p.says))
-    ∙ sym p.constant.lowest
-
-fraction_printed : (x : Parts) → IsFraction x → fraction_of_text (spelling (pair_of x)) ≡ Some x
-fraction_printed x f = by (fraction_of_text (spelling (pair_of x))) (plain_is (spelling (pair_of x)))
-  where
-    by : (r : Option Parts) → IsNumberOf in_fractions (spelling (pair_of x)) r → r ≡ Some x
-    by None n = absurd (n x (plain_text x f))
-    by (Some z) q = ap Some (plain_once (spelling (pair_of x)) x z (plain_text x f) q)
+  pub fraction_printed : fraction_of_text (spelling (pair_of x)) ≡ Some x
+  fraction_printed =
+      let read : quotient_in (spelling (pair_of x)) ≡ Some (term 0 (pair_of x)) =
+      ap quotient_in (sym (term_text (pair_of x))) ∙ reads_back (term 0 (pair_of x)) (term_stored 0 (pair_of x) (omega arith) f.reduced) in
+      plain_read (spelling (pair_of x)) (Some (term 0 (pair_of x))) (no_bracket (spelling (pair_of x)) (spelling_bytes (pair_of x) f.reduced)) (sym read)
+      ∙ constant
 
 pub stored_printed : StoredNumbersArePrinted
 stored_printed in_fractions c x s = fraction_printed x s
-stored_printed in_quotients c x s = quotient_once (quotient_text x) x (text_of_quotient x s)
+stored_printed in_quotients c x s = reads_back x s

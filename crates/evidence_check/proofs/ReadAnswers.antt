@@ -36,7 +36,7 @@ use Rattle.evidence_check.specs.Evidence.{others}
 use Rattle.evidence_check.specs.EvidenceView.{hypotheses_of}
 use Rattle.evidence_check.specs.NumberReading.{case_frame}
 use Rattle.evidence_check.specs.ReadView.{proof_fault}
-use Rattle.evidence_check.proofs.FitAnswers.{others_from}
+use Rattle.evidence_check.proofs.Others.{others_from}
 use Rattle.evidence_check.proofs.Hypotheses.{as_many}
 
 -- ---- answers of the reader, and of forms

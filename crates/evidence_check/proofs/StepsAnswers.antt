@@ -15,7 +15,6 @@ use Rattle.evidence_check.specs.declared.evidence.ProofStep.{ProofStep}
 use Rattle.evidence_check.specs.declared.evidence.KeepProof.{KeepProof}
 use Rattle.evidence_check.specs.declared.event.CheckEvent.{CheckEvent}
 use Rattle.evidence_check.specs.declared.event.CheckEventAt.{CheckEventAt}
-use Rattle.evidence_check.specs.EvidenceParts.{AreFull, FlowsFit, ExitsFit}
 use Rattle.evidence_check.specs.EvidenceView.{hypotheses_of, step_parts, keep_parts}
 use Rattle.evidence_check.specs.CheckSteps.{numbered}
 use Rattle.evidence_check.specs.WrittenCheck.{Loaded, step_check, keep_check, steps_check, keeps_check}
@@ -45,25 +44,18 @@ take_count [] i p = absurd (omega arith)
 take_count (x ∷ xs) zero p = refl
 take_count (x ∷ xs) (suc i) p = ap suc (take_count xs i (omega arith))
 
-module _ {F : Type 0} (parts : F → Parts) (K : Kind) (L : Loaded) (m components : ℕ) (steps : List (ProofStep F)) where
+module _ {F : Type 0} (parts : F → Parts) (K : Kind) (L : Loaded) (m : ℕ) (steps : List (ProofStep F)) where
   -- this number of steps were checked
   pub record Checked (i : ℕ) : Type 0 where
     pub ahead : steps_check K L [] (map (step_parts parts) steps) ≡ steps_check K L (hypotheses_of (take i steps)) (map (step_parts parts) (drop i steps))
     pub order : IsOrder m whole (hypotheses_of (take i steps))
-    pub fit : FlowsFit components i (map (step_parts parts) (drop i steps))
 
-  pub steps_start : FlowsFit components 0 (map (step_parts parts) steps) → Checked 0
-  steps_start h = record { ahead = refl; order = tt; fit = h }
+  pub steps_start : Checked 0
+  steps_start = record { ahead = refl; order = tt }
 
   module _ (i : ℕ) (s : ProofStep F) (p : i < length steps) (h : s ≡ get_or steps i s) (C : Checked i) where
     here : drop i steps ≡ s ∷ drop (suc i) steps
     here = drop_here steps i s p ∙ ap (λ s. s ∷ drop (suc i) steps) (sym h)
-
-    pub step_fits : FlowsFit components i (map (step_parts parts) (s ∷ drop (suc i) steps))
-    step_fits = subst (λ ss. FlowsFit components i (map (step_parts parts) ss)) here C.fit
-
-    pub step_full : AreFull components (length (take i steps)) (map (map parts) s.flows)
-    step_full = subst (λ n. AreFull components n (map (map parts) s.flows)) (sym (take_count steps i p)) step_fits.0
 
     pub step_known : All (λ s. s.hypothesis < m) (map (step_parts parts) steps) → s.hypothesis < m
     step_known all = subst (λ s. s.hypothesis < m) (sym (ap (step_parts parts) h))
@@ -101,7 +93,6 @@ module _ {F : Type 0} (parts : F → Parts) (K : Kind) (L : Loaded) (m component
       order = subst (IsOrder m whole) (sym one_more)
           (removals_next m (hypotheses_of (take i steps)) s.hypothesis whole C.order
           (record { below = below; member = not_listed_left (hypotheses_of (take i steps)) whole s.hypothesis refl new }));
-      fit = step_fits.1;
     })
       where
         new : set_of (hypotheses_of (take i steps)) s.hypothesis ≡ false
@@ -114,14 +105,13 @@ module _ {F : Type 0} (parts : F → Parts) (K : Kind) (L : Loaded) (m component
   pub order_end : (i : ℕ) → i ≡ length steps → Checked i → IsOrder m whole (hypotheses_of steps)
   order_end i e C = subst (λ ts. IsOrder m whole (hypotheses_of ts)) (take_end steps i e) C.order
 
-module _ {F : Type 0} (parts : F → Parts) (K : Kind) (L : Loaded) (js : List ℕ) (m components count n : ℕ) (keeps : List (KeepProof F)) where
+module _ {F : Type 0} (parts : F → Parts) (K : Kind) (L : Loaded) (js : List ℕ) (m n : ℕ) (keeps : List (KeepProof F)) where
   -- this number of keeps was checked
   pub record Kept (i : ℕ) : Type 0 where
     pub ahead : keeps_check K L js n (map (keep_parts parts) keeps) ≡ keeps_check K L js (n + i) (map (keep_parts parts) (drop i keeps))
-    pub fit : ExitsFit components count (map (keep_parts parts) (drop i keeps))
 
-  pub keeps_start : ExitsFit components count (map (keep_parts parts) keeps) → Kept 0
-  keeps_start h = record { ahead = ap (λ k. keeps_check K L js k (map (keep_parts parts) keeps)) (zero_more n); fit = h }
+  pub keeps_start : Kept 0
+  keeps_start = record { ahead = ap (λ k. keeps_check K L js k (map (keep_parts parts) keeps)) (zero_more n) }
     where
       zero_more : (n : ℕ) → n ≡ n + 0
       zero_more n = omega arith
@@ -129,9 +119,6 @@ module _ {F : Type 0} (parts : F → Parts) (K : Kind) (L : Loaded) (js : List �
   module _ (i : ℕ) (x : KeepProof F) (p : i < length keeps) (h : x ≡ get_or keeps i x) (C : Kept i) where
     keep_here : drop i keeps ≡ x ∷ drop (suc i) keeps
     keep_here = drop_here keeps i x p ∙ ap (λ x. x ∷ drop (suc i) keeps) (sym h)
-
-    pub keep_fits : ExitsFit components count (map (keep_parts parts) (x ∷ drop (suc i) keeps))
-    keep_fits = subst (λ xs. ExitsFit components count (map (keep_parts parts) xs)) keep_here C.fit
 
     pub keep_known : All (λ x. x.hypothesis < m) (map (keep_parts parts) keeps) → x.hypothesis < m
     keep_known all = subst (λ x. x.hypothesis < m) (sym (ap (keep_parts parts) h))
@@ -154,7 +141,6 @@ module _ {F : Type 0} (parts : F → Parts) (K : Kind) (L : Loaded) (js : List �
     pub keeps_next : (u : Unit {0}) → numbered (n + i + 1) (keep_check K L js (keep_parts parts x)) ≡ Ok u → Kept (i + 1)
     keeps_next u w = subst Kept (sym (add-one i)) (record {
       ahead = rw (kept_is, w) (ap (λ k. keeps_check K L js k (map (keep_parts parts) (drop (suc i) keeps))) (more n i));
-      fit = keep_fits.1;
     })
 
   pub keeps_end : (i : ℕ) → i ≡ length keeps → Kept i → keeps_check K L js n (map (keep_parts parts) keeps) ≡ Ok tt

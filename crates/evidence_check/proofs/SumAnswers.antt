@@ -1,7 +1,5 @@
 -- The sums of a case as they are written down.
-use Rattle.std.proofs.Common.{◌≡◌, sym, ap, ap₂, subst, ◌∙◌, ℕ, ◌<◌, List, [], map, length, get_or, Result}
-use Rattle.std.specs.List.{All}
-use Rattle.std.proofs.lemmas.List.{length-map, get_or-map}
+use Rattle.std.proofs.Common.{◌≡◌, refl, ap, ap₂, ◌∙◌, ℕ, zero, suc, List, [], ◌∷◌, map, length, get_or, Result}
 use Rattle.field_core.specs.declared.place.Place.{Place}
 use Rattle.field_core.specs.declared.place.Place.TheVariants.{Level, Exit}
 use Rattle.field_core.specs.Kind.{Parts, Kind}
@@ -29,9 +27,7 @@ module _ (K : Kind) (L : Loaded) (js : List ℕ) (y : ℕ → Parts) (c k : ℕ)
 
 -- ---- the numbers of a component
 
-module _ {F : Type 0} (parts : F → Parts) (lists : List (List F)) (c : ℕ) (ys : List F) (p : c < length lists) where
-  pub in_list : map parts (get_or lists c ys) ≡ get_or (map (map parts) lists) c []
-  in_list = sym (get_or-map (map parts) lists c ys [] p)
-
-  pub in_count : (n : ℕ) → All (λ ys. length ys ≡ n) (map (map parts) lists) → length (get_or lists c ys) ≡ n
-  in_count n A = sym (length-map (get_or lists c ys) parts) ∙ ap length in_list ∙ A c [] (subst (λ m. c < m) (sym (length-map lists (map parts))) p)
+pub mapped_row : {F : Type 0} (parts : F → Parts) (lists : List (List F)) (c : ℕ) → map parts (get_or lists c []) ≡ get_or (map (map parts) lists) c []
+mapped_row parts [] c = refl
+mapped_row parts (ys ∷ lists) zero = refl
+mapped_row parts (ys ∷ lists) (suc c) = mapped_row parts lists c

@@ -63,12 +63,12 @@ some_of_wide op None x h = absurd (cc)
 
 module _ (K : Kind) (IsStored : Parts → Type 0) (X : IsExact K IsStored) where
   -- a number that isn't below 0
-  pub sign_tells : (x : Parts) (v : Number) (reason : Reason) → Gives IsStored x v
-      → Tells (require (not_less (sign_of x)) reason) (λ _. number_zero ≤ε v) (¬ (number_zero ≤ε v))
-  sign_tells x v reason G =
+  pub sign_tells : (x : Parts) (v : Number) (why : Reason) (Bad : Reason → Type 0) → Gives IsStored x v → (¬ (number_zero ≤ε v) → Bad why)
+      → Tells (require (not_less (sign_of x)) why) (λ _. number_zero ≤ε v) Bad
+  sign_tells x v why Bad G below =
       let e : sign_of x ≡ number_sign v = X.sign x G.stored ∙ ap number_sign G.value in
-      require_tells (not_less (sign_of x)) reason (number_zero ≤ε v) (λ h. sign_low v (ap not_less (sym e) ∙ h))
-      (λ h low. true_false _ (ap not_less e ∙ low_sign v low) h)
+      require_tells (not_less (sign_of x)) why (number_zero ≤ε v) Bad (λ h. sign_low v (ap not_less (sym e) ∙ h))
+      (λ h. below (λ low. true_false _ (ap not_less e ∙ low_sign v low) h))
 
   -- a comparison that isn't refused
   pub compared : (x y : Parts) (u v : Number) (o : Ordering) → Gives IsStored x u → Gives IsStored y v → K.compare x y ≡ Ok o
@@ -81,7 +81,8 @@ module _ (K : Kind) (IsStored : Parts → Type 0) (X : IsExact K IsStored) where
       told (Err q) o e h = absurd (cc)
 
   -- sums of products
-  pub added_tells : (component : ℕ → ℕ) (place : Place) (start : Parts) (f g : ℕ → Parts) (v : Number) (u w : ℕ → Number) (n : ℕ) (Bad : Type 0)
+  pub added_tells : (component : ℕ → ℕ) (place : Place) (start : Parts) (f g : ℕ → Parts) (v : Number) (u w : ℕ → Number) (n : ℕ)
+      (Bad : Reason → Type 0)
       → Gives IsStored start v → ((i : ℕ) → i < n → Gives IsStored (f i) (u i)) → ((i : ℕ) → i < n → Gives IsStored (g i) (w i))
       → Tells (added K component place start f g n) (λ x. Gives IsStored x (v +ε sum_below number_field n (λ i. u i *ε w i))) Bad
   unfolding added with_product
@@ -106,7 +107,7 @@ module _ (K : Kind) (IsStored : Parts → Type 0) (X : IsExact K IsStored) where
       let e = some_of_wide Mul (K.written Mul (f n) (g n)) product d in
       let s = X.stored Mul _ _ product F.stored H.stored tt e in
       let m : value_of product ≡ u n *ε w n = X.exact Mul _ _ product F.stored H.stored tt e ∙ ap₂ ◌*ε◌ F.value H.value in
-      tells_if (written_at c place (or_wide Add (K.written Add sum product))) _ _ _ _
+      tells_if (written_at c place (or_wide Add (K.written Add sum product))) _ _ _
       (λ x d.
       let a = some_of_wide Add (K.written Add sum product) x d in
       record {
@@ -114,5 +115,4 @@ module _ (K : Kind) (IsStored : Parts → Type 0) (X : IsExact K IsStored) where
         value = X.exact Add _ _ x G.stored s tt a ∙ ap₂ ◌+ε◌ G.value m ∙ number_add_assoc v _ _
             ∙ ap (λ t. v +ε t) (sym (sum_last n (λ i. u i *ε w i)));
       })
-      (λ b. b)
       (written_tells c place (or_wide Add (K.written Add sum product)) Bad)))

@@ -14,8 +14,7 @@ use Rattle.evidence_check.specs.DocumentLines.{Words, kinds}
 use Rattle.evidence_check.specs.Document.{document}
 use Rattle.evidence_check.specs.EvidenceLines.{evidence_lines}
 use Rattle.evidence_check.specs.NumberReading.{case_frame}
-use Rattle.evidence_check.specs.DocumentStatements.{case_reading, said_of, evidence_text, EvidenceTextsSayIt}
-use Rattle.evidence_check.proofs.NumberFound.{frame_is}
+use Rattle.evidence_check.specs.DocumentStatements.{case_reading, said_of, evidence_text, CasesHaveFrames, EvidenceTextsSayIt}
 use Rattle.evidence_check.proofs.WrittenLines.{lines_say}
 
 line_back : (line : Words) → IsLine line → words_of (line_spelt line) ≡ line
@@ -28,6 +27,9 @@ numbered_back n (line ∷ lines) h = ap₂ (λ x xs. x ∷ xs) (line_back line h
 
 lines_back : (lines : List Words) → AllByRecursion IsLine lines → lines_in (words_seen (rows_of (text_of lines))) ≡ lines
 lines_back lines h = ap (λ rows. lines_in (words_seen rows)) (rows_of_text lines h) ∙ numbered_back 0 lines h
+
+pub frame_is : CasesHaveFrames
+frame_is n c = record { name = λ j p. refl; position = λ name. refl; components = refl; others_are = λ js. refl; numbers = λ text. refl }
 
 pub text_says : EvidenceTextsSayIt
 unfolding case_reading

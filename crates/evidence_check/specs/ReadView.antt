@@ -16,7 +16,7 @@ use Rattle.evidence_check.specs.DocumentLines.{Frame, kinds}
 use Rattle.evidence_check.specs.declared.evidence.Steps.{Steps}
 use Rattle.evidence_check.specs.Document.{Said, Lines}
 use Rattle.evidence_check.specs.EvidenceView.{step_parts, keep_parts}
-use Rattle.evidence_check.specs.NumberTexts.{IsNumberOf}
+use Rattle.evidence_check.specs.NumberReading.{number_in_text}
 
 -- the frame has the names, the components and the numbers of the case `c`, in the numbers `n`
 pub record IsFrameFor (n : Numbers) (c : Content) (T : Frame) : Type 0 where
@@ -24,7 +24,7 @@ pub record IsFrameFor (n : Numbers) (c : Content) (T : Frame) : Type 0 where
   pub position : (name : List ℕ) → T.position name ≡ position_of name c.names
   pub components : T.components ≡ length c.components
   pub others_are : (js : List ℕ) → T.others js ≡ others (length c.names) js
-  pub numbers : (text : List ℕ) → IsNumberOf n text (T.number text)
+  pub numbers : (text : List ℕ) → T.number text ≡ number_in_text n text
 
 -- the fault of a line
 abbrev pub proof_fault : FaultAt ProofKind → ProofText

@@ -13,10 +13,11 @@ ghost use Rattle.evidence_check.specs.CaseCheck.{loaded_case};
 use crate::ProofStep;
 use crate::event::CheckEvent;
 use crate::loading::{edge, weight};
+use crate::rows::number;
 use crate::sums::added;
 use case_model::Case;
 use case_numbers::CaseNumber;
-use field_core::{Number, Place};
+use field_core::Place;
 
 /// Returns the hypothesis of the step at place `e`. If the steps are of distinct hypotheses below some number, so is the result.
 #[tactic(auto, unfolding(crate::specs::Evidence::at_place))]
@@ -60,15 +61,6 @@ fn edge_to<F: CaseNumber>(case: &Case, steps: &[ProofStep<F>], c: usize, l: usiz
     edge(case, c, l, hypothesis(steps, e))
 }
 
-/// Returns the number at a place.
-#[tactic(auto, unfolding(crate::specs::EvidenceParts::numbers_at))]
-pub fn number<F: Number>(numbers: &[F], e: usize) -> F
-    requires { e < length numbers.now }
-    ensures { F.parts result ≡ numbers_at F.kind (map F.parts numbers.now) e }
-{
-    numbers[e]
-}
-
 /// Returns the weight of `k` in a component plus what flows through the hypotheses of earlier steps bring to `k`.
 #[tactic(auto, unfolding(crate::specs::WrittenCheck::brought_sum))]
 pub fn brought<F: CaseNumber>(
@@ -81,7 +73,6 @@ pub fn brought<F: CaseNumber>(
 ) -> Result<F, CheckEvent>
     requires c { c < length (content case.now).components }
     requires k { k < length (content case.now).names }
-    requires count { length flows.now ≡ length earlier.now }
     requires order { IsOrder (length (content case.now).names) whole (hypotheses_of earlier.now) }
     ensures { ok_map F.parts result ≡ brought_sum F.kind (loaded_case F.kind F.numbers (content case.now))
         (hypotheses_of earlier.now) place
@@ -110,7 +101,6 @@ pub fn leaving<F: CaseNumber>(
     requires c { c < length (content case.now).components }
     requires k { k < length (content case.now).names }
     requires r { r < length steps.now }
-    requires count { length exits.now ≡ length steps.now }
     requires order { IsOrder (length (content case.now).names) whole (hypotheses_of steps.now) }
     ensures { ok_map F.parts result ≡ leaving_sum F.kind (loaded_case F.kind F.numbers (content case.now)) (hypotheses_of steps.now)
         (numbers_at F.kind (map F.parts exits.now)) k c r }
@@ -137,7 +127,6 @@ pub fn allowed<F: CaseNumber>(
 ) -> Result<F, CheckEvent>
     requires c { c < length (content case.now).components }
     requires k { k < length (content case.now).names }
-    requires count { length exits.now ≡ length steps.now }
     requires order { IsOrder (length (content case.now).names) whole (hypotheses_of steps.now) }
     ensures { ok_map F.parts result ≡ allowed_sum F.kind (loaded_case F.kind F.numbers (content case.now)) (hypotheses_of steps.now)
         (numbers_at F.kind (map F.parts exits.now)) k c }

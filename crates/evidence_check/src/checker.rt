@@ -7,8 +7,8 @@ ghost use Rattle.case_model.specs.CaseView.{content};
 ghost use Rattle.case_model.specs.Content.{entangled, IsRejectedIn};
 ghost use Rattle.case_model.specs.LegalOrder.{IsListed};
 ghost use Rattle.case_numbers.specs.Numbers.{CanRunIn};
-ghost use Rattle.evidence_check.specs.EvidenceParts.{FlowsFit, ExitsFit, FitsSize};
-ghost use Rattle.evidence_check.specs.EvidenceView.{hypotheses_of, step_parts, keep_parts, version_of, steps_of, keeps_of, IsEvidenceFor};
+ghost use Rattle.evidence_check.specs.Evidence.{others};
+ghost use Rattle.evidence_check.specs.EvidenceView.{hypotheses_of, step_parts, keep_parts, steps_of, keeps_of, IsOfCase};
 ghost use Rattle.evidence_check.specs.CheckSteps.{numbered};
 ghost use Rattle.evidence_check.specs.WrittenCheck.{steps_check, keeps_check};
 ghost use Rattle.evidence_check.specs.CheckStatements.{IsLoaded};
@@ -53,7 +53,6 @@ pub fn verdict(checked: Result<(), CheckEventAt>) -> Result<Verdict, CheckWide>
 pub fn steps<F: CaseNumber>(case: &Case, steps: &[ProofStep<F>]) -> Result<(), CheckEventAt>
     requires single { IsSingle (content case.now).inputs }
     requires below { All (λ s. s.hypothesis < length (content case.now).names) (map (step_parts F.parts) steps.now) }
-    requires fit { FlowsFit (length (content case.now).components) 0 (map (step_parts F.parts) steps.now) }
     requires loaded { IsLoaded F.IsStored (loaded_case F.kind F.numbers (content case.now)) (entangled (content case.now)) }
     ensures checked { ok_map (λ u. hypotheses_of steps.now) result ≡ steps_check F.kind
         (loaded_case F.kind F.numbers (content case.now)) []
@@ -74,7 +73,6 @@ pub fn keeps<F: CaseNumber>(
 ) -> Result<(), CheckEventAt>
     requires single { IsSingle (content case.now).inputs }
     requires below { All (λ x. x.hypothesis < length (content case.now).names) (map (keep_parts F.parts) keeps.now) }
-    requires fit { ExitsFit (length (content case.now).components) (length steps.now) (map (keep_parts F.parts) keeps.now) }
     requires order { IsOrder (length (content case.now).names) whole (hypotheses_of steps.now) }
     requires loaded { IsLoaded F.IsStored (loaded_case F.kind F.numbers (content case.now)) (entangled (content case.now)) }
     ensures { result ≡ keeps_check F.kind (loaded_case F.kind F.numbers (content case.now)) (hypotheses_of steps.now) (length steps.now)
@@ -90,9 +88,8 @@ pub fn keeps<F: CaseNumber>(
 fn checked<F: EvidenceNumber>(case: &Case, proof: &Steps<F>) -> Result<(), CheckEventAt>
     requires single { IsSingle (content case.now).inputs }
     requires runs { CanRunIn F.numbers (content case.now) }
-    requires size { FitsSize (length (content case.now).names) (length (content case.now).components)
-        (map (step_parts F.parts) proof.now.steps)
-        (map (keep_parts F.parts) proof.now.keeps) }
+    requires steps { All (λ s. s.hypothesis < length (content case.now).names) (map (step_parts F.parts) proof.now.steps) }
+    requires keeps { All (λ x. x.hypothesis < length (content case.now).names) (map (keep_parts F.parts) proof.now.keeps) }
     ensures { result ≡ check_in F.kind F.numbers (content case.now) (map (step_parts F.parts) proof.now.steps)
         (map (keep_parts F.parts) proof.now.keeps) }
 {
@@ -106,7 +103,7 @@ fn checked<F: EvidenceNumber>(case: &Case, proof: &Steps<F>) -> Result<(), Check
 /// Checks evidence for a case, in the numbers of the evidence, up to the first event.
 fn checked_for(case: &Case, proof: &Evidence) -> Result<(), CheckEventAt>
     requires single { IsSingle (content case.now).inputs }
-    requires fits { IsEvidenceFor (content case.now) proof.now }
+    requires of_case { IsOfCase (content case.now) proof.now }
     ensures { result ≡ case_check (content case.now) (steps_of proof.now) (keeps_of proof.now) }
 {
     match proof {
@@ -122,18 +119,19 @@ fn checked_for(case: &Case, proof: &Evidence) -> Result<(), CheckEventAt>
 /// - `CheckWide` exactly if an undefined written operation comes first,
 /// - `Verdict::Yes` exactly if neither comes.
 ///
-/// A yes implies that the closed test rejects each hypothesis of a step, and in version 2 that it rejects no other. The call takes
-/// no memory and removes nothing.
+/// A yes implies that the closed test rejects each hypothesis of a step, and, if the keeps are of all others, that it rejects no
+/// other. A number past the end of its list is 0. The call takes no memory and removes nothing.
 pub fn check(case: &Case, proof: &Evidence) -> Result<Verdict, CheckWide>
     requires single { IsSingle (content case.now).inputs }
-    requires fits { IsEvidenceFor (content case.now) proof.now }
+    requires of_case { IsOfCase (content case.now) proof.now }
     ensures answer { result ≡ verdict_of (case_check (content case.now) (steps_of proof.now) (keeps_of proof.now)) }
     ensures yes { result ≡ Ok Yes → MeetsIn (content case.now) (steps_of proof.now) (keeps_of proof.now) }
     ensures no { (n : ℕ) (reason : Broken) → result ≡ Ok (No n reason)
         → ¬ MeetsIn (content case.now) (steps_of proof.now) (keeps_of proof.now) }
     ensures rejected { result ≡ Ok Yes → (j : ℕ) → IsListed (map (λ s. s.hypothesis) (steps_of proof.now)) j
         → IsRejectedIn (content case.now) j }
-    ensures all { result ≡ Ok Yes → version_of proof.now ≡ 2 → (j : ℕ)
+    ensures all { result ≡ Ok Yes → map (λ x. x.hypothesis) (keeps_of proof.now)
+        ≡ others (length (content case.now).names) (map (λ s. s.hypothesis) (steps_of proof.now)) → (j : ℕ)
         → IsListed (map (λ s. s.hypothesis) (steps_of proof.now)) j
         ↔ IsRejectedIn (content case.now) j }
 {

@@ -10,15 +10,16 @@ ghost use Rattle.fraction.specs.Plain.{fraction_parts};
 ghost use Rattle.case_model.specs.CaseView.{content};
 ghost use Rattle.case_model.specs.Content.{entangled};
 ghost use Rattle.evidence_check.specs.CheckSteps.{all_below};
-ghost use Rattle.evidence_check.specs.EvidenceParts.{numbers_at, part_at, AreFull};
+ghost use Rattle.evidence_check.specs.EvidenceParts.{numbers_at, part_at};
 ghost use Rattle.evidence_check.specs.EvidenceView.{hypotheses_of};
 ghost use Rattle.evidence_check.specs.WrittenCheck.{exit_check, allowed_limit};
 ghost use Rattle.evidence_check.specs.CheckStatements.{IsLoaded};
 ghost use Rattle.evidence_check.specs.CaseCheck.{loaded_case};
 
-use crate::case_sums::{allowed, hypothesis, leaving, number};
+use crate::case_sums::{allowed, hypothesis, leaving};
 use crate::event::CheckEvent;
 use crate::flows::in_component;
+use crate::rows::number;
 use crate::sums::{all_below, is_nonnegative, placed, require};
 use crate::{ProofStep, Reason};
 use case_model::Case;
@@ -38,7 +39,6 @@ fn exit<F: CaseNumber>(
     requires c { c < length (content case.now).components }
     requires k { k < length (content case.now).names }
     requires r { r < length steps.now }
-    requires count { length exits.now ≡ length steps.now }
     requires order { IsOrder (length (content case.now).names) whole (hypotheses_of steps.now) }
     ensures { result ≡ exit_check F.kind (loaded_case F.kind F.numbers (content case.now)) (hypotheses_of steps.now)
         (numbers_at F.kind (map F.parts exits.now)) k c r }
@@ -61,7 +61,6 @@ pub fn exits<F: CaseNumber>(
 ) -> Result<(), CheckEvent>
     requires c { c < length (content case.now).components }
     requires k { k < length (content case.now).names }
-    requires full { AreFull (length (content case.now).components) (length steps.now) (map (map F.parts) lists.now) }
     requires order { IsOrder (length (content case.now).names) whole (hypotheses_of steps.now) }
     ensures { result ≡ all_below (length (hypotheses_of steps.now))
         (exit_check F.kind (loaded_case F.kind F.numbers (content case.now)) (hypotheses_of steps.now)
@@ -82,7 +81,6 @@ pub fn limit<F: CaseNumber>(
 ) -> Result<Fraction, CheckEvent>
     requires c { c < length (content case.now).components }
     requires k { k < length (content case.now).names }
-    requires full { AreFull (length (content case.now).components) (length steps.now) (map (map F.parts) lists.now) }
     requires order { IsOrder (length (content case.now).names) whole (hypotheses_of steps.now) }
     requires loaded { IsLoaded F.IsStored (loaded_case F.kind F.numbers (content case.now)) (entangled (content case.now)) }
     requires exits { (r : ℕ) → r < length (hypotheses_of steps.now)

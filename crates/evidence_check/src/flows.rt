@@ -1,16 +1,17 @@
 //! Flows of steps.
-ghost use Rattle.std.specs.Prelude.{◌≡◌, ◌<◌, ℕ, All, map, length, get_or, []};
+ghost use Rattle.std.specs.Prelude.{◌≡◌, ◌<◌, ℕ, map, length, get_or, []};
 ghost use Rattle.field_core.specs.Sets.{whole};
 ghost use Rattle.field_core.specs.Runs.{IsOrder};
 ghost use Rattle.case_model.specs.CaseView.{content};
 ghost use Rattle.evidence_check.specs.CheckSteps.{all_below};
-ghost use Rattle.evidence_check.specs.EvidenceParts.{numbers_at, part_at, AreFull};
+ghost use Rattle.evidence_check.specs.EvidenceParts.{numbers_at, part_at};
 ghost use Rattle.evidence_check.specs.EvidenceView.{hypotheses_of};
 ghost use Rattle.evidence_check.specs.WrittenCheck.{flow_check};
 ghost use Rattle.evidence_check.specs.CaseCheck.{loaded_case};
 
-use crate::case_sums::{brought, hypothesis, number};
+use crate::case_sums::{brought, hypothesis};
 use crate::event::CheckEvent;
+use crate::rows::{number, row};
 use crate::sums::{all_below, is_nonnegative, placed, require};
 use crate::{ProofStep, Reason};
 use case_model::Case;
@@ -28,7 +29,6 @@ fn flow<F: CaseNumber>(
 ) -> Result<(), CheckEvent>
     requires c { c < length (content case.now).components }
     requires r { r < length earlier.now }
-    requires count { length flows.now ≡ length earlier.now }
     requires order { IsOrder (length (content case.now).names) whole (hypotheses_of earlier.now) }
     ensures { result ≡ flow_check F.kind (loaded_case F.kind F.numbers (content case.now)) (hypotheses_of earlier.now)
         (numbers_at F.kind (map F.parts flows.now)) c r }
@@ -44,11 +44,9 @@ fn flow<F: CaseNumber>(
 
 /// Returns the numbers of a component.
 pub fn in_component<F: Number>(lists: &List<List<F>>, c: usize) -> &[F]
-    requires { c < length lists.now }
-    ensures numbers { map F.parts result.now ≡ get_or (map (map F.parts) lists.now) c [] }
-    ensures count { (n : ℕ) → All (λ ys. length ys ≡ n) (map (map F.parts) lists.now) → length result.now ≡ n }
+    ensures { map F.parts result.now ≡ get_or (map (map F.parts) lists.now) c [] }
 {
-    lists.as_slice()[c].as_slice()
+    row(lists, c)
 }
 
 /// Tests the conditions on the flows, in a component, through the hypotheses of earlier steps.
@@ -59,7 +57,6 @@ pub fn flows<F: CaseNumber>(
     c: usize,
 ) -> Result<(), CheckEvent>
     requires c { c < length (content case.now).components }
-    requires full { AreFull (length (content case.now).components) (length earlier.now) (map (map F.parts) lists.now) }
     requires order { IsOrder (length (content case.now).names) whole (hypotheses_of earlier.now) }
     ensures { result ≡ all_below (length (hypotheses_of earlier.now))
         (flow_check F.kind (loaded_case F.kind F.numbers (content case.now)) (hypotheses_of earlier.now)

@@ -9,7 +9,7 @@ ghost use Rattle.field_core.specs.Sets.{whole};
 ghost use Rattle.field_core.specs.Runs.{IsOrder};
 ghost use Rattle.case_model.specs.CaseView.{content};
 ghost use Rattle.case_model.specs.Content.{entangled};
-ghost use Rattle.evidence_check.specs.EvidenceParts.{part_at, AreFull};
+ghost use Rattle.evidence_check.specs.EvidenceParts.{part_at};
 ghost use Rattle.evidence_check.specs.EvidenceView.{hypotheses_of, keep_parts};
 ghost use Rattle.evidence_check.specs.WrittenCheck.{level_by, allowed_limit, keep_check};
 ghost use Rattle.evidence_check.specs.CheckStatements.{IsLoaded};
@@ -33,7 +33,6 @@ fn keep_level<F: CaseNumber>(
     k: usize,
 ) -> Result<Fraction, CheckEvent>
     requires k { k < length (content case.now).names }
-    requires full { AreFull (length (content case.now).components) (length steps.now) (map (map F.parts) lists.now) }
     requires order { IsOrder (length (content case.now).names) whole (hypotheses_of steps.now) }
     requires loaded { IsLoaded F.IsStored (loaded_case F.kind F.numbers (content case.now)) (entangled (content case.now)) }
     requires exits { (c : ℕ) → c < length (content case.now).components → (r : ℕ) → r < length (hypotheses_of steps.now)
@@ -53,7 +52,6 @@ pub fn keep<F: CaseNumber>(
 ) -> Result<(), CheckEvent>
     requires single { IsSingle (content case.now).inputs }
     requires below { keep.now.hypothesis < length (content case.now).names }
-    requires full { AreFull (length (content case.now).components) (length steps.now) (map (map F.parts) keep.now.exits) }
     requires order { IsOrder (length (content case.now).names) whole (hypotheses_of steps.now) }
     requires loaded { IsLoaded F.IsStored (loaded_case F.kind F.numbers (content case.now)) (entangled (content case.now)) }
     ensures { result ≡ keep_check F.kind (loaded_case F.kind F.numbers (content case.now)) (hypotheses_of steps.now)

@@ -11,9 +11,9 @@ ghost use Rattle.evidence_check.specs.WrittenCheck.{is_above_zero, shared_sum, l
 ghost use Rattle.evidence_check.specs.CaseCheck.{IsSingle, loaded_case};
 ghost use Rattle.evidence_check.specs.declared.event.CheckEvent.{CheckEvent as Ended};
 
-use crate::case_sums::number;
 use crate::event::CheckEvent;
 use crate::loading::p_value;
+use crate::rows::number;
 use crate::sums::with_product;
 use case_model::{Case, passes};
 use field_core::{Number, Place, try_fill};

@@ -9,7 +9,7 @@ ghost use Rattle.fraction.specs.Plain.{fraction_parts};
 ghost use Rattle.case_model.specs.CaseView.{content};
 ghost use Rattle.case_model.specs.Content.{entangled};
 ghost use Rattle.evidence_check.specs.Evidence.{AreFlows};
-ghost use Rattle.evidence_check.specs.EvidenceParts.{part_at, AreFull};
+ghost use Rattle.evidence_check.specs.EvidenceParts.{part_at};
 ghost use Rattle.evidence_check.specs.EvidenceView.{hypotheses_of, step_parts};
 ghost use Rattle.evidence_check.specs.WrittenCheck.{level_by, level_limit, step_check};
 ghost use Rattle.evidence_check.specs.CheckStatements.{IsLoaded};
@@ -44,7 +44,6 @@ fn limit<F: CaseNumber>(
 ) -> Result<Fraction, CheckEvent>
     requires c { c < length (content case.now).components }
     requires k { k < length (content case.now).names }
-    requires full { AreFull (length (content case.now).components) (length earlier.now) (map (map F.parts) lists.now) }
     requires order { IsOrder (length (content case.now).names) whole (hypotheses_of earlier.now) }
     requires loaded { IsLoaded F.IsStored (loaded_case F.kind F.numbers (content case.now)) (entangled (content case.now)) }
     requires other { set_of (hypotheses_of earlier.now) k ≡ false }
@@ -67,7 +66,6 @@ fn step_level<F: CaseNumber>(
     k: usize,
 ) -> Result<Fraction, CheckEvent>
     requires k { k < length (content case.now).names }
-    requires full { AreFull (length (content case.now).components) (length earlier.now) (map (map F.parts) lists.now) }
     requires order { IsOrder (length (content case.now).names) whole (hypotheses_of earlier.now) }
     requires loaded { IsLoaded F.IsStored (loaded_case F.kind F.numbers (content case.now)) (entangled (content case.now)) }
     requires other { set_of (hypotheses_of earlier.now) k ≡ false }
@@ -89,7 +87,6 @@ pub fn step<F: CaseNumber>(
 ) -> Result<(), CheckEvent>
     requires single { IsSingle (content case.now).inputs }
     requires below { step.now.hypothesis < length (content case.now).names }
-    requires full { AreFull (length (content case.now).components) (length earlier.now) (map (map F.parts) step.now.flows) }
     requires order { IsOrder (length (content case.now).names) whole (hypotheses_of earlier.now) }
     requires loaded { IsLoaded F.IsStored (loaded_case F.kind F.numbers (content case.now)) (entangled (content case.now)) }
     ensures { result ≡ step_check F.kind (loaded_case F.kind F.numbers (content case.now)) (hypotheses_of earlier.now)

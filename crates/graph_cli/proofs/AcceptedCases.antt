@@ -10,10 +10,8 @@ use Rattle.case_model.specs.Content.{Content}
 use Rattle.case_model.specs.declared.draft.Draft.{Draft}
 use Rattle.command_words.specs.Asked.{Encoding, text, csv, json}
 use Rattle.edge_text.proofs.TextLaws.{one_draft, one_first_fault, not_both}
-use Rattle.field_core.specs.View.{terms}
 use Rattle.field_core.specs.declared.ratio.Ratio.{Ratio}
 use Rattle.field_core.proofs.Results.{came_from, same_value, same_fault, one_some}
-use Rattle.fraction.proofs.SameRatios.{same_ratio}
 use Rattle.case_csv.specs.Answers.{RowFault}
 use Rattle.case_csv.specs.Table.{Cells, cells_of, sheet_of, IsTable}
 use Rattle.case_json.specs.Values.{IsJson}
@@ -30,9 +28,6 @@ use Rattle.graph_cli.specs.Accepted.{grammar, faultless, of_kind, of_size, suita
 use Rattle.graph_cli.specs.Troubles.{line_of}
 use Rattle.graph_cli.specs.declared.kind.InputKind.{InputKind}
 use Rattle.graph_cli.specs.declared.needs.Needs.{Needs}
-
-csv_draft : (records : List Cells) (x y : Ratio) (d e : Draft) → terms x ≡ terms y → IsTable records x d → IsTable records y e → d ≡ e
-csv_draft records x y d e same h k = same_value d e (sym (subst (λ z. IsTable records z d) (same_ratio x y same) h) ∙ k)
 
 csv_refusal : (records : List Cells) (f g : RowFault) → sheet_of records ≡ Err f → sheet_of records ≡ Err g
     → cell_refusal f.row f.column f.kind ≡ cell_refusal g.row g.column g.kind
@@ -67,10 +62,10 @@ grammar_decided text bytes = record {
   not_both = λ d r h k. not_both bytes d k.0 k.1 h k.2;
 }
 grammar_decided (csv alpha) bytes = record {
-  one = λ d e h k. csv_draft (cells_of bytes) h.0 k.0 d e (h.1 ∙ sym k.1) h.2 k.2;
+  one = λ d e h k. same_value d e (sym h ∙ k);
   one_refusal = λ r q h k. h.4 ∙ csv_refusal (cells_of bytes) (record { row = h.0; column = h.1; kind = h.2 })
       (record { row = k.0; column = k.1; kind = k.2 }) h.3 k.3 ∙ sym k.4;
-  not_both = λ d r h k. csv_not_both (cells_of bytes) h.0 d (record { row = k.0; column = k.1; kind = k.2 }) h.2 k.3;
+  not_both = λ d r h k. csv_not_both (cells_of bytes) alpha d (record { row = k.0; column = k.1; kind = k.2 }) h k.3;
 }
 grammar_decided json bytes = record { one = json_draft bytes; one_refusal = json_one_refusal bytes; not_both = json_not_both bytes }
 

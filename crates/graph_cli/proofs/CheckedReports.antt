@@ -17,7 +17,7 @@ use Rattle.evidence_check.specs.EvidenceView.{version_of, steps_of, keeps_of, Is
 use Rattle.evidence_check.specs.CaseCheck.{IsSingle, case_check, verdict_of}
 use Rattle.evidence_check.specs.DocumentStatements.{SaysEvidence}
 use Rattle.evidence_check.proofs.CaseChecked.{case_rejected, case_decides}
-use Rattle.evidence_check.proofs.CheckAnswers.{yes_is, evidence_stored, keeps_others}
+use Rattle.evidence_check.proofs.CheckAnswers.{yes_is, of_case, evidence_stored, keeps_others}
 use Rattle.report.specs.CheckReport.{check_report}
 use Rattle.graph_cli.specs.Accepted.{IsOfKind, grammar}
 use Rattle.graph_cli.specs.Check.{Said, said_of, listed_in, kept_in, answer_to, check_stage}
@@ -25,7 +25,7 @@ use Rattle.graph_cli.specs.Commands.{call_of, check_call, check_needs}
 use Rattle.graph_cli.specs.declared.kind.InputKind.TheVariants.{Single}
 use Rattle.graph_cli.specs.Laws.{ReportsEvidence, ChecksAreOfTheClosedTest}
 use Rattle.graph_cli.proofs.CheckedOrders.{checked_order}
-use Rattle.graph_cli.proofs.ClosedReports.{known_arrivals, faultless_content, not_done}
+use Rattle.graph_cli.proofs.ClosedReports.{valid_said, not_done}
 
 not_no : (s : Status) → s ≡ statuses.No → s ≡ statuses.Done → ⊥
 not_no s e f = cc
@@ -50,9 +50,9 @@ reported c v bytes printed V single fits says holds e = record {
   says = says;
   holds = holds;
   text_is = e;
-  legal = checked_order c V single (steps_of v) (keeps_of v) (evidence_stored c v fits) (yes_is _ holds);
-  rejected = λ j. case_rejected c V single (steps_of v) (keeps_of v) (evidence_stored c v fits) (yes_is _ holds) j;
-  all = λ two j. case_decides c V single (steps_of v) (keeps_of v) (evidence_stored c v fits) (yes_is _ holds) (keeps_others c v fits two) j;
+  legal = checked_order c V single (steps_of v) (keeps_of v) (evidence_stored c v (of_case c v fits)) (yes_is _ holds);
+  rejected = λ j. case_rejected c V single (steps_of v) (keeps_of v) (evidence_stored c v (of_case c v fits)) (yes_is _ holds) j;
+  all = λ two j. case_decides c V single (steps_of v) (keeps_of v) (evidence_stored c v (of_case c v fits)) (yes_is _ holds) (keeps_others c (steps_of v) (keeps_of v) (fits.all two)) j;
   keeps = λ two. fits.all two;
 }
 
@@ -77,7 +77,7 @@ checks_closed_test words format file case proof a asks (inl h) z =
       says = subst (λ xs. (grammar format xs).Gives draft) bytes_are read.1;
       faultless = read.2.0;
       reports = subst (λ c. ReportsEvidence c proof a.text) content_is
-          (reported gives.0 found.0 proof a.text (subst IsValidContent (sym content_is) (faultless_content draft read.2.0 (known_arrivals format _ draft read.1)))
+          (reported gives.0 found.0 proof a.text (subst IsValidContent (sym content_is) (valid_said format _ draft read.1 read.2.0))
           (single_values gives.0.inputs (subst (λ (c : Content). IsOfKind Single c.inputs) (sym gives.1.2.2.2.1) single)) found.1
           (subst (λ xs. SaysEvidence gives.0 xs found.0) proof_is found.2)
           (subst (λ (s : Said). verdict_of (case_check gives.0 s.steps s.keeps) ≡ Ok Yes) found.3 verdict_is)

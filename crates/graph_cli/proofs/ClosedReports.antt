@@ -11,7 +11,7 @@ use Rattle.answers.specs.declared.cause.Cause.{Cause}
 use Rattle.answers.specs.declared.status.Status.{Status}
 use Rattle.answers.specs.declared.status.Status.TheVariants.{Done, Refused}
 use Rattle.case_model.specs.CaseFaults.{case_fault}
-use Rattle.case_model.specs.Draft.{have_known_arrivals}
+use Rattle.case_model.proofs.DraftValidity.{valid_of}
 use Rattle.case_model.specs.Content.{Content, ForSingle, content_of, entangled, IsRejectedIn}
 use Rattle.case_model.specs.declared.draft.Draft.{Draft}
 use Rattle.case_model.specs.LegalOrder.{IsLegalOrder, IsComplete}
@@ -19,10 +19,10 @@ use Rattle.case_model.specs.Sums.{number_at}
 use Rattle.case_model.specs.Validity.{IsValidContent}
 use Rattle.case_model.proofs.SingleInputs.{for_single}
 use Rattle.case_model.proofs.ValidContents.{valid_content}
-use Rattle.edge_text.proofs.Texts.{document_arrivals}
+use Rattle.edge_text.proofs.Texts.{document_ends, document_arrivals}
 use Rattle.case_csv.specs.Table.{cells_of}
-use Rattle.case_csv.proofs.NoArrivals.{no_arrivals}
-use Rattle.case_json.proofs.Drafts.{says_arrivals}
+use Rattle.case_csv.proofs.NoArrivals.{table_ends, no_arrivals}
+use Rattle.case_json.proofs.Drafts.{says_ends, says_arrivals}
 use Rattle.command_words.specs.Asked.{Encoding, text, csv, json, on_case}
 use Rattle.command_words.specs.declared.command.CaseTask.{CaseTask}
 use Rattle.command_words.specs.declared.command.CaseTask.TheVariants.{Test}
@@ -50,14 +50,11 @@ named_listed : (steps : List StepLine) (j : ℕ) → is_rejected steps j ≡ set
 unfolding is_rejected
 named_listed steps j = any_listed steps j
 
--- of what a format says, each p-value that arrived is of a hypothesis
-pub known_arrivals : (format : Encoding) (bytes : List ℕ) (d : Draft) → (grammar format bytes).Gives d → have_known_arrivals d ≡ true
-known_arrivals text bytes d t = document_arrivals bytes d t
-known_arrivals (csv alpha) bytes d t = no_arrivals (cells_of bytes) t.0 d t.2
-known_arrivals json bytes d t = says_arrivals bytes d t
-
-pub faultless_content : (d : Draft) → case_fault d ≡ None → have_known_arrivals d ≡ true → IsValidContent (content_of d)
-faultless_content d f known = ∣ (record { draft = d; content_is = refl; faultless = f; known_arrivals = known }) ∣₁
+-- what a format says without a fault has a valid content
+pub valid_said : (format : Encoding) (bytes : List ℕ) (d : Draft) → (grammar format bytes).Gives d → case_fault d ≡ None → IsValidContent (content_of d)
+valid_said text bytes d t = valid_of d (document_ends bytes d t) (document_arrivals bytes d t)
+valid_said (csv alpha) bytes d t = valid_of d (table_ends (cells_of bytes) alpha d t) (no_arrivals (cells_of bytes) alpha d t)
+valid_said json bytes d t = valid_of d (says_ends bytes d t) (says_arrivals bytes d t)
 
 -- a refusal isn't done
 pub not_done : (s : Status) (cause : Cause) → s ≡ Refused cause → s ≡ Done → ⊥
@@ -117,7 +114,7 @@ reports_case Reports words format task case proof a of_case asks (inl h) z =
     let read = gives.1.2.1 in
     let draft = read.0 in
     let content_is : gives.0 ≡ content_of draft = gives.1.2.2.2.1 ∙ (gives.1.2.2.1.1 ∙ read.2.1) in
-    let valid = subst IsValidContent (sym content_is) (faultless_content draft read.2.0 (known_arrivals format _ draft read.1)) in
+    let valid = subst IsValidContent (sym content_is) (valid_said format _ draft read.1 read.2.0) in
     record {
       draft = draft;
       says = subst (λ xs. (grammar format xs).Gives draft) bytes_are read.1;

@@ -15,8 +15,8 @@ use Rattle.evidence_check.specs.declared.verdict.Verdict.{Verdict}
 use Rattle.evidence_check.specs.declared.verdict.Verdict.TheVariants.{Yes, No}
 use Rattle.evidence_check.specs.EvidenceView.{steps_of, keeps_of}
 use Rattle.evidence_check.specs.CaseCheck.{p_values_of, case_check, verdict_of}
-use Rattle.evidence_check.proofs.CaseChecked.{case_tells}
-use Rattle.evidence_check.proofs.CheckAnswers.{no_is, evidence_stored}
+use Rattle.evidence_check.proofs.CaseChecked.{case_fair}
+use Rattle.evidence_check.proofs.CheckAnswers.{no_is, of_case, evidence_stored}
 use Rattle.evidence.specs.CaseFlows.{IsCompleteOrder, case_flows}
 use Rattle.evidence.specs.FlowRun.{WideStep, WrittenEvidence}
 use Rattle.evidence.proofs.CaseEvidence.{flows_meet}
@@ -73,6 +73,6 @@ pub never_no : (c : Content) (decision : Decision) (v : Evidence) → IsValidCon
     → IsFlowRun c decision v → (n : ℕ) (reason : Reason) → verdict_of (case_check c (steps_of v) (keeps_of v)) ≡ Ok (No n reason) → ⊥
 unfolding case_flows
 never_no c decision v V o f n reason h =
-    (case_tells c V (steps_of v) (keeps_of v) (evidence_stored c v f.fits)).bad n reason (no_is _ n reason h)
+    case_fair c V (steps_of v) (keeps_of v) (evidence_stored c v (of_case c v f.fits)) n reason (no_is _ n reason h)
     ((flows_meet c V (number_at (p_values_of c.inputs)) (number_of c.alpha) (hypotheses decision.steps) o.legal (numbers_of c)
     (can_run c) o.complete _ f.run).0)

@@ -10,7 +10,7 @@ use Rattle.evidence_check.specs.declared.verdict.Verdict.TheVariants.{Yes}
 use Rattle.evidence_check.specs.CaseCheck.{IsSingle, case_check, verdict_of}
 use Rattle.evidence_check.specs.EvidenceView.{steps_of, keeps_of}
 use Rattle.evidence_check.proofs.CaseChecked.{case_decides}
-use Rattle.evidence_check.proofs.CheckAnswers.{yes_is, evidence_stored, keeps_others}
+use Rattle.evidence_check.proofs.CheckAnswers.{yes_is, of_case, evidence_stored, keeps_others}
 use Rattle.evidence.proofs.EvidenceSaid.{said}
 use Rattle.sequential.specs.declared.decision.Decision.{Decision}
 use Rattle.sequential.specs.declared.priority.Priority.{Priority}
@@ -34,8 +34,8 @@ printed c v decision text V single f holds e = record {
   says = said c v text e V f.fits;
   version = f.version;
   holds = holds;
-  legal = checked_order c V single (steps_of v) (keeps_of v) (evidence_stored c v f.fits) (yes_is _ holds);
-  named = λ j. case_decides c V single (steps_of v) (keeps_of v) (evidence_stored c v f.fits) (yes_is _ holds) (keeps_others c v f.fits f.version) j;
+  legal = checked_order c V single (steps_of v) (keeps_of v) (evidence_stored c v (of_case c v f.fits)) (yes_is _ holds);
+  named = λ j. case_decides c V single (steps_of v) (keeps_of v) (evidence_stored c v (of_case c v f.fits)) (yes_is _ holds) (keeps_others c (steps_of v) (keeps_of v) (f.fits.all f.version)) j;
   keeps = f.fits.all f.version;
 }
 

@@ -1,5 +1,5 @@
 -- The faults of the calls that commands make, as what the commands refuse.
-use Rattle.std.proofs.Common.{◌≢◌, ℕ, List, Err, inl, inr, refl}
+use Rattle.std.proofs.Common.{ℕ, List, Err, inl, inr, refl}
 use Rattle.case_model.specs.Content.{Content}
 use Rattle.closed_test.specs.SetWeights.{AreIntersectionWeights}
 use Rattle.field_core.specs.declared.ratio.Ratio.{Ratio}
@@ -12,23 +12,21 @@ use Rattle.staged_levels.specs.declared.case_looks.LooksFault.{LooksFault}
 use Rattle.staged_levels.specs.declared.case_looks.LooksFault.TheVariants as looks
 use Rattle.graph_cli.specs.Check.{evidence_in}
 use Rattle.graph_cli.specs.Stages.{looked}
-use Rattle.graph_cli.specs.Troubles.{of_simes, of_looks, of_text}
-use Rattle.graph_cli.specs.declared.trouble.Trouble.TheVariants.{NoMemory}
+use Rattle.graph_cli.specs.Troubles.{IfRefused, of_simes, of_looks, of_text}
 use Rattle.simes_test.specs.SimesFaults.{IsSimesFault}
 use Rattle.simes_test.specs.declared.fault.SimesFault.{SimesFault}
 use Rattle.simes_test.specs.declared.fault.SimesFault.TheVariants as simes
 
 pub sums_refuse : (c : Content) (weight : ℕ → ℕ → Ratio) (f : SimesFault) → AreIntersectionWeights c weight → IsSimesFault c weight f
-    → of_simes f ≢ NoMemory → IsWideSimesSet c (of_simes f)
-sums_refuse c weight (simes.Wide n w) are h some = (weight, are, n, w, h, refl)
-sums_refuse c weight simes.NoMemory are h some = absurd (some refl)
+    → IfRefused (of_simes f) (IsWideSimesSet c)
+sums_refuse c weight (simes.Wide n w) are h = (weight, are, n, w, h, refl)
+sums_refuse c weight simes.NoMemory are h = tt
 
-pub looks_refuse : (c : Content) (f : LooksFault) → IsLooksFault c f → of_looks f ≢ NoMemory → (looked c).Refuses (of_looks f)
-looks_refuse c (looks.Opening w) h some = inl (w, h, refl)
-looks_refuse c (looks.Arriving n w) h some = inr (n, w, h, refl)
-looks_refuse c looks.NoMemory h some = absurd (some refl)
+pub looks_refuse : (c : Content) (f : LooksFault) → IsLooksFault c f → IfRefused (of_looks f) (looked c).Refuses
+looks_refuse c (looks.Opening w) h = inl (w, h, refl)
+looks_refuse c (looks.Arriving n w) h = inr (n, w, h, refl)
+looks_refuse c looks.NoMemory h = tt
 
-pub text_refuses : (c : Content) (bytes : List ℕ) (f : ProofText) → IsReading c bytes (Err f) → of_text f ≢ NoMemory
-    → (evidence_in c bytes).Refuses (of_text f)
-text_refuses c bytes (texts.Line n kind) h some = (n, kind, evidence_refused c bytes n kind h, refl)
-text_refuses c bytes texts.NoMemory h some = absurd (some refl)
+pub text_refuses : (c : Content) (bytes : List ℕ) (f : ProofText) → IsReading c bytes (Err f) → IfRefused (of_text f) (evidence_in c bytes).Refuses
+text_refuses c bytes (texts.Line n kind) h = (n, kind, evidence_refused c bytes n kind h, refl)
+text_refuses c bytes texts.NoMemory h = tt

@@ -1,12 +1,10 @@
 -- What is printed of a sample names exactly what the closed test rejects.
-use Rattle.std.proofs.Common.{◌≡◌, refl, ap, subst, ℕ, true, List, Option, Some, None, Result, Ok, Err, inl, inr}
+use Rattle.std.proofs.Common.{◌≡◌, refl, ap, subst, ℕ, List, Option, Some, None, Result, Ok, Err, inl, inr}
 use Rattle.std.specs.Prelude.{pos}
 use Rattle.field_core.specs.declared.ratio.Ratio.{Ratio}
 use Rattle.answers.specs.declared.answer.Answer.{Answer}
 use Rattle.case_model.specs.CaseFaults.{case_fault}
-use Rattle.case_model.specs.Draft.{have_known_arrivals}
 use Rattle.case_model.specs.Content.{Content, content_of}
-use Rattle.case_model.specs.declared.draft.Draft.{Draft}
 use Rattle.case_model.specs.declared.fault.CaseFault.{CaseFault}
 use Rattle.case_model.specs.Validity.{IsValidContent}
 use Rattle.catalogue.specs.declared.fault.CatalogueFault.{CatalogueFault}
@@ -22,7 +20,9 @@ use Rattle.sequential.specs.declared.priority.Priority.TheVariants.{First}
 use Rattle.graph_cli.specs.Commands.{call_of}
 use Rattle.graph_cli.specs.Sample.{sample_stage}
 use Rattle.graph_cli.specs.Laws.{SamplesAreOfTheClosedTest}
-use Rattle.graph_cli.proofs.ClosedReports.{faultless_content, by_the_closed_test, not_done}
+use Rattle.catalogue.proofs.KnownEnds.{known_ends, known_arrivals}
+use Rattle.case_model.proofs.DraftValidity.{valid_of}
+use Rattle.graph_cli.proofs.ClosedReports.{by_the_closed_test, not_done}
 
 same_content : (r : Result Content CatalogueFault) (c d : Content) → r ≡ Ok c → r ≡ Ok d → c ≡ d
 same_content r c d e f = cc
@@ -30,27 +30,25 @@ same_content r c d e f = cc
 not_made : (fault : CatalogueFault) (c : Content) → Err fault ≡ Ok c → ⊥
 not_made fault c e = cc
 
--- what is made of a draft is of a draft without a fault
-made_valid : (d : Draft) (fault : Option CaseFault) (c : Content) → case_fault d ≡ fault → have_known_arrivals d ≡ true → made_unless d fault ≡ Ok c
-    → IsValidContent c
-made_valid d None c f known e = subst IsValidContent (same_content (Ok (content_of d)) (content_of d) c refl e) (faultless_content d f known)
-made_valid d (Some fault) c f known e = absurd (not_made _ c e)
+-- what is made of a named graph is valid
+made_valid : (G : WeightedGraph) (alpha : Ratio) (ps : List Ratio) (fault : Option CaseFault) (c : Content) → case_fault (draft_of G alpha ps) ≡ fault
+    → made_unless (draft_of G alpha ps) fault ≡ Ok c → IsValidContent c
+made_valid G alpha ps None c f e = let d = draft_of G alpha ps in
+    subst IsValidContent (same_content (Ok (content_of d)) (content_of d) c refl e) (valid_of d (known_ends G alpha ps) (known_arrivals G alpha ps) f)
+made_valid G alpha ps (Some fault) c f e = absurd (not_made _ c e)
 
 -- nothing stands before what is made
 behind_made : (fault : Option CatalogueFault) (r : Result Content CatalogueFault) (c : Content) → behind fault r ≡ Ok c → r ≡ Ok c
 behind_made None r c e = e
 behind_made (Some fault) r c e = absurd (not_made fault c e)
 
-none_arrive : (G : WeightedGraph) (alpha : Ratio) (ps : List Ratio) → have_known_arrivals (draft_of G alpha ps) ≡ true
-unfolding have_known_arrivals draft_of
-none_arrive G alpha ps = refl
-
 sample_valid : (size seed : ℕ) (c : Content) → sample_case size seed ≡ Ok c → IsValidContent c
 unfolding sample_case made
 sample_valid size seed c e =
-    let d = draft_of (sample_graph size seed) (quotient (pos 1) 20) (sample_p_values size seed) in
-    made_valid d (case_fault d) c refl (none_arrive (sample_graph size seed) (quotient (pos 1) 20) (sample_p_values size seed))
-    (behind_made (seed_fault seed) _ c (behind_made (size_fault size) _ c e))
+    let G = sample_graph size seed in
+    let alpha = quotient (pos 1) 20 in
+    let ps = sample_p_values size seed in
+    made_valid G alpha ps (case_fault (draft_of G alpha ps)) c refl (behind_made (seed_fault seed) _ c (behind_made (size_fault size) _ c e))
 
 pub samples_closed_test : SamplesAreOfTheClosedTest
 unfolding call_of sample_stage

@@ -14,8 +14,6 @@ use Rattle.command_words.specs.Asked.{Encoding, text, csv, json}
 use Rattle.edge_text.specs.Document.{IsText}
 use Rattle.edge_text.specs.Faults.{IsFirstFault}
 use Rattle.edge_text.specs.declared.fault.LineKind.{LineKind}
-use Rattle.field_core.specs.View.{terms}
-use Rattle.field_core.specs.declared.ratio.Ratio.{Ratio}
 use Rattle.case_csv.specs.Table.{cells_of, IsTable}
 use Rattle.case_csv.specs.Faults.{IsFirstFault as IsFirstBadCell}
 use Rattle.case_csv.specs.declared.fault.RowKind.{RowKind}
@@ -51,7 +49,7 @@ grammar text bytes = record {
   Refuses = λ r. (n : ℕ) × (kind : LineKind) × IsFirstFault bytes n kind × (r ≡ line_refusal n kind);
 }
 grammar (csv alpha) bytes = record {
-  Gives = λ d. (level : Ratio) × (terms level ≡ alpha) × IsTable (cells_of bytes) level d;
+  Gives = λ d. IsTable (cells_of bytes) alpha d;
   Refuses = λ r. (row : ℕ) × (column : ℕ) × (kind : RowKind) × IsFirstBadCell (cells_of bytes) row column kind × (r ≡ cell_refusal row column kind);
 }
 grammar json bytes = record {

@@ -1,14 +1,12 @@
 //! The stages that commands have in common: the case is read, and tested whether the command can take it.
-ghost use Rattle.std.specs.Prelude.{◌≡◌, OnOk};
+ghost use Rattle.std.specs.Prelude.{◌≡◌, MatchResult, OnOk};
 ghost use Rattle.std.specs.Io.KnownBytes.{IsAtEnd};
 ghost use Rattle.answers.specs.Devices.{reading};
 ghost use Rattle.answers.specs.Stages.{seen_by};
 ghost use Rattle.answers.specs.Ways.{EndsIn, over_values, over_reading};
 ghost use Rattle.case_model.specs.CaseView.{content};
 ghost use Rattle.command_words.specs.Asked.{encoding, text, csv, json};
-ghost use Rattle.command_words.specs.Levels.{level_of};
 ghost use Rattle.graph_cli.specs.Accepted.{IsTakenWithin, case_in, suitable, accepted};
-ghost use Rattle.graph_cli.specs.Troubles.{Meets};
 
 use crate::needs::Needs;
 use crate::trouble::Trouble;
@@ -41,7 +39,7 @@ fn text_case(alloc: Global, bytes: &[u8]) -> Result<Case, Stop>
 
 /// Returns the case that a CSV sheet denotes at a level.
 fn csv_case(alloc: Global, alpha: Fraction, bytes: &[u8]) -> Result<Case, Stop>
-    ensures { EndsIn (over_values (seen_by content (case_in (csv (level_of alpha)) bytes.now))) result }
+    ensures { EndsIn (over_values (seen_by content (case_in (csv alpha) bytes.now))) result }
 {
     match read_csv(alloc, bytes, alpha) {
         Ok(case) => Ok(case),
@@ -80,7 +78,8 @@ fn read_case(alloc: Global, format: &CaseFormat, bytes: &[u8]) -> Result<Case, S
 
 /// Tests whether a command with these needs can take a case: its kind first, then its size.
 fn suitable(case: &Case, needs: Needs) -> Result<(), Trouble>
-    ensures { Meets (seen_by (λ _. content case.now) (suitable needs (content case.now))) result }
+    ensures { MatchResult result (λ _. (suitable needs (content case.now)).Gives (content case.now))
+        (suitable needs (content case.now)).Refuses }
 {
     if !needs.kind.is_of(case) {
         return Err(Trouble::Kind);

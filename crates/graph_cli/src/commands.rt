@@ -48,7 +48,7 @@ use crate::commands::test::test_answer;
 use crate::commands::weights::weights_answer;
 use crate::kind::InputKind;
 use crate::needs::Needs;
-use crate::trouble::{Trouble, ending_of};
+use crate::no_answer::{NoAnswer, ending_of};
 use answers::{Answer, Stop, take_whole};
 use case_model::Case;
 use command_words::{CaseFormat, CaseTask, Command};
@@ -73,7 +73,7 @@ fn needs_of(task: CaseTask) -> Needs
 
 /// Returns the answer of a task for a case that it can take.
 #[tactic(auto, unfolding(crate::specs::Commands::needs_of, crate::specs::Commands::on_case))]
-fn case_answer(alloc: Global, task: CaseTask, case: &Case) -> Result<Answer, Trouble>
+fn case_answer(alloc: Global, task: CaseTask, case: &Case) -> Result<Answer, NoAnswer>
     requires kind { IsOfKind (needs_of task).kind (content case.now).inputs }
     requires size { length (content case.now).names ≤ (needs_of task).most }
     ensures { Meets (on_case task (content case.now)) result }

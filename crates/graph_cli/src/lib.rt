@@ -12,7 +12,8 @@
 //! - `case_taken`, `proof_taken`: how many bytes are taken at most.
 //! - `proof_asked`: a call that ends with an answer has taken from the proof, if it reads one and hasn't refused the case.
 //!
-//! Proved of `file_word`: `file`, `none`.
+//! Proved of `file_word`: it returns the place of the word that names a file (`file`), and `None` only if no word does
+//! (`none`).
 //!
 //! Laws in `src/laws.rt`; those of the other commands are in `printed`:
 //! - `calls_have_one_answer`.
@@ -38,6 +39,7 @@ mod commands;
 mod kind;
 pub mod laws;
 mod needs;
+mod no_answer;
 mod top;
 mod trouble;
 

@@ -1,15 +1,13 @@
 -- What `canon` prints is read as the case that was read, and as no other.
 use Rattle.std.proofs.Common.{◌≡◌, refl, sym, ap, subst, ◌∙◌, ℕ, List, Option, Some, true}
-use Rattle.field_core.specs.View.{terms}
 use Rattle.field_core.proofs.Results.{same_value, one_some}
-use Rattle.fraction.proofs.SameRatios.{same_ratio}
 use Rattle.serde_json.specs.Read.{read}
 use Rattle.answers.specs.declared.answer.Answer.{Answer}
 use Rattle.answers.specs.declared.status.Status.TheVariants.{Done}
 use Rattle.answers.specs.Stages.{IsAnswerOf}
 use Rattle.case_csv.proofs.SheetCases.{sheets_read_back}
 use Rattle.case_csv.specs.Sheet.{sheet_text}
-use Rattle.case_csv.specs.Table.{cells_of, IsTable}
+use Rattle.case_csv.specs.Table.{cells_of}
 use Rattle.case_json.proofs.WrittenCases.{reads_back}
 use Rattle.case_json.specs.Document.{document_of}
 use Rattle.case_json.specs.Written.{json_text}
@@ -23,7 +21,7 @@ use Rattle.command_words.specs.declared.format.Format.TheVariants.{Text, Csv, Js
 use Rattle.edge_text.proofs.CanonicalCases.{canonical_reads_back}
 use Rattle.edge_text.proofs.TextLaws as texts
 use Rattle.edge_text.specs.CanonicalText.{canonical_text}
-use Rattle.graph_cli.proofs.ClosedReports.{known_arrivals, faultless_content, reports_case}
+use Rattle.graph_cli.proofs.ClosedReports.{valid_said, reports_case}
 use Rattle.graph_cli.specs.Accepted.{grammar, case_in}
 use Rattle.graph_cli.specs.Canon.{canon_stage, sheet_stage}
 use Rattle.graph_cli.specs.Commands.{on_case as answers_on_case}
@@ -38,9 +36,7 @@ use Rattle.printed.proofs.WholeTexts.{text_whole, sheet_draft_whole}
 
 one_draft : (format : Encoding) (bytes : List ℕ) (d e : Draft) → (grammar format bytes).Gives d → (grammar format bytes).Gives e → d ≡ e
 one_draft text bytes d e h k = texts.one_draft bytes d e h k
-one_draft (csv alpha) bytes d e h k =
-    let same = same_ratio h.0 k.0 (h.1 ∙ sym k.1) in
-    same_value d e (sym (subst (λ z. IsTable (cells_of bytes) z d) same h.2) ∙ k.2)
+one_draft (csv alpha) bytes d e h k = same_value d e (sym h ∙ k)
 one_draft json bytes d e h k =
     same_value d e (sym h.2 ∙ ap document_of (one_some (read bytes) h.0 k.0 h.1.1 k.1.1) ∙ k.2)
 
@@ -51,7 +47,7 @@ one_content format bytes c d h k = h.2.1 ∙ ap content_of (one_draft format byt
 -- what bytes say has edges with a coefficient for each power
 draft_whole : (format : Encoding) (bytes : List ℕ) (d : Draft) → (grammar format bytes).Gives d → IsWhole d
 draft_whole text bytes d h = text_whole bytes d h
-draft_whole (csv alpha) bytes d h = sheet_draft_whole (cells_of bytes) h.0 d h.2
+draft_whole (csv alpha) bytes d h = sheet_draft_whole (cells_of bytes) alpha d h
 draft_whole json bytes d h = json_whole bytes d h
 
 -- ---- what is printed
@@ -79,7 +75,7 @@ module _ (c : Content) (v : IsValidContent c) (h : has_coefficients c.components
   canon_read Text a g = text_read
   canon_read Csv a g =
       let k = sheets_read_back (record { names = c.names; alpha = c.alpha; components = c.components; inputs = c.inputs; valid = v; coefficients = h }) g.0 in
-      (k.draft, (c.alpha, refl, k.says), (k.faultless, k.content_is))
+      (k.draft, k.says, (k.faultless, k.content_is))
   canon_read Json a g =
       let k = reads_back (record { names = c.names; alpha = c.alpha; components = c.components; inputs = c.inputs; valid = v; coefficients = h }) in
       (k.draft, k.says, (k.faultless, k.content_is))
@@ -104,7 +100,7 @@ printed_read : (format : Encoding) (to : Format) (bytes : List ℕ) (a : Answer)
     → IsReadAs to (content_of r.draft) a.text
 printed_read format to bytes a r =
     let c = content_of r.draft in
-    let valid = faultless_content r.draft r.faultless (known_arrivals format bytes r.draft r.says) in
+    let valid = valid_said format bytes r.draft r.says r.faultless in
     let whole = whole_content r.draft (draft_whole format bytes r.draft r.says) in
     read_as to c a.text (subst (λ t. (case_in (read_again to c) t).Gives c) (sym (text_is to c a r.reports)) (canon_read c valid whole to a r.reports))
 
@@ -115,7 +111,7 @@ canon_reads_back words format to bytes proof a asks h z =
 
 same_reading : (to : Format) (c d : Content) → LevelsAgree to c d → read_again to c ≡ read_again to d
 same_reading Text c d e = refl
-same_reading Csv c d e = ap (λ x. csv (terms x)) e
+same_reading Csv c d e = ap csv e
 same_reading Json c d e = refl
 
 -- the case that bytes say is that of the draft which they say

@@ -13,7 +13,7 @@ use Rattle.case_model.specs.Validity.{IsValidContent}
 use Rattle.case_model.specs.declared.draft_edge.DraftEdge.{DraftEdge}
 use Rattle.case_model.specs.declared.inputs.Inputs.TheVariants.{Bare}
 use Rattle.catalogue.proofs.AloneCases.{is_made}
-use Rattle.catalogue.proofs.KnownEnds.{all_flat, known_arrivals}
+use Rattle.catalogue.proofs.KnownEnds.{all_flat, known_ends, known_arrivals}
 use Rattle.catalogue.specs.Makings.{made, behind, holm_case, sequence_case, fallback_case, parallel_case, improved_case}
 use Rattle.catalogue.specs.NamedGraphs.{linear, constant, part, holm_graph, next_edge, sequence_graph, fallback_graph, equal_weights, gate_edge, parallel_graph}
 use Rattle.catalogue.specs.NamedGraphs.{back_edge, improved_graph}
@@ -23,7 +23,7 @@ use Rattle.catalogue.specs.WeightedGraphs.{WeightedGraph, names_of, edge_with, e
 use Rattle.catalogue.specs.declared.fault.CatalogueFault.{CatalogueFault}
 use Rattle.command_words.specs.declared.graph_name.SizedGraph.{SizedGraph}
 use Rattle.command_words.specs.declared.graph_name.SizedGraph.TheVariants.{Holm, FixedSequence, Fallback, Parallel, ImprovedParallel}
-use Rattle.graph_cli.proofs.ClosedReports.{faultless_content}
+use Rattle.case_model.proofs.DraftValidity.{valid_of}
 use Rattle.graph_cli.specs.Graphs.{named_case}
 use Rattle.printed.specs.Catalogue.{graph_size}
 use Rattle.printed.proofs.FilledCases.{filled_case}
@@ -126,7 +126,7 @@ module _ (G : WeightedGraph) (alpha : Ratio) where
       let d = draft_of G alpha [] in
       let M = is_made d c h in
       subst (IsOfGraph G alpha) M.content (record {
-        valid = faultless_content d M.faultless (known_arrivals G alpha []);
+        valid = valid_of d (known_ends G alpha []) (known_arrivals G alpha []) M.faultless;
         whole = whole_content d (graph_whole G whole alpha []);
         names = names_are;
         level = level_is;

@@ -23,13 +23,13 @@ use Rattle.textbook.specs.Gatekeeping.{IsGatekeepingRejected}
 use Rattle.textbook.proofs.GateOrders.{gatekeeping_decides}
 use Rattle.textbook.proofs.NeverWide.{holm_decisions, sequence_decisions, fallback_decisions, gatekeeping_decisions}
 use Rattle.graph_cli.specs.Accepted.{case_in}
-use Rattle.graph_cli.proofs.ClosedReports.{known_arrivals, faultless_content}
+use Rattle.graph_cli.proofs.ClosedReports.{valid_said}
 use Rattle.printed.specs.Rules.{over, HolmGraphsAreTestedByHolm, SequencesAreTestedInOrder, FallbacksAreTestedByFallback, GatesAreTestedByGatekeeping}
 use Rattle.printed.proofs.RuleTests.{tested}
 
 -- a case that bytes denote is valid
 given_valid : (format : Encoding) (bytes : List ℕ) (c : Content) → (case_in format bytes).Gives c → IsValidContent c
-given_valid format bytes c g = subst IsValidContent (sym g.2.1) (faultless_content g.0 g.2.0 (known_arrivals format bytes g.0 g.1))
+given_valid format bytes c g = subst IsValidContent (sym g.2.1) (valid_said format bytes g.0 g.1 g.2.0)
 
 module _ (c : Content) (ps : List Ratio) (single : c.inputs ≡ Single ps) (V : IsValidContent c) where
   low : number_zero ≤ε number_of c.alpha

@@ -27,7 +27,7 @@ use Rattle.study_cli.specs.CommandLines.{AreCommands}
 use Rattle.study_cli.specs.declared.command.StudyCommand.{StudyCommand}
 use Rattle.study_cli.specs.declared.command.StudyCommand.TheVariants.{Take, Show}
 use Rattle.study_register.specs.Looking.{arrivals_of, AreTaken}
-use Rattle.graph_cli.proofs.ClosedReports.{known_arrivals, faultless_content, not_done}
+use Rattle.graph_cli.proofs.ClosedReports.{valid_said, not_done}
 use Rattle.graph_cli.proofs.StagedReports.{or_again}
 use Rattle.graph_cli.specs.Accepted.{grammar}
 use Rattle.printed.specs.Study.{ShowsStagedTest, BringsRejections, ReportsStudy, StudiesAreOfTheStagedTest}
@@ -169,7 +169,7 @@ studies_of_test words asked case commands kept e asks h z =
     let read = gives.1.2.1 in
     let draft = read.0 in
     let content_is : c ≡ content_of draft = gives.1.2.2.2.1 ∙ (gives.1.2.2.1.1 ∙ read.2.1) in
-    let valid = subst IsValidContent (sym content_is) (faultless_content draft read.2.0 (known_arrivals asked.format _ draft read.1)) in
+    let valid = subst IsValidContent (sym content_is) (valid_said asked.format _ draft read.1 read.2.0) in
     let list = gives.2.0 in
     let commands_are = gives.2.1.1.0 in
     let said = gives.2.1.2 in

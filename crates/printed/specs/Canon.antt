@@ -1,6 +1,5 @@
 -- What `canon` prints is read as the same case.
 use Rattle.std.specs.Prelude.{◌≡◌, ℕ, List, Option, Some}
-use Rattle.field_core.specs.View.{terms}
 use Rattle.answers.specs.declared.answer.Answer.{Answer}
 use Rattle.answers.specs.declared.status.Status.TheVariants.{Done}
 use Rattle.answers.specs.Stages.{IsAnswerOf}
@@ -16,7 +15,7 @@ use Rattle.graph_cli.specs.Outcome.{AskFor, outcome}
 -- how the text that is printed of a case in a format is read again: in that format, and a sheet at the level of the case
 abbrev pub read_again : Format → Content → Encoding
 read_again Text c = text
-read_again Csv c = csv (terms c.alpha)
+read_again Csv c = csv c.alpha
 read_again Json c = json
 
 -- The text is read, in the format that it is printed in, as this case and as no other.

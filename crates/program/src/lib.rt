@@ -13,12 +13,13 @@
 //! - `run_end`, `study_end`: a case that they read was read to its end after status 0.
 //! - `case_taken`: from a case that isn't read to its end, at most one byte more than an input may have is taken.
 //!
-//! Proved of `file_path`: `path`, `none`.
+//! Proved of `file_path`: it returns the path of the file that the words name (`path`), and `None` only if they name none
+//! (`none`).
 #![tactic(auto)]
 
 mod opener;
 mod over_file;
-mod whole;
+mod top;
 
 pub use opener::{NotOpened, Opener};
-pub use whole::{file_path, run_program};
+pub use top::{file_path, run_program};

@@ -1,26 +1,16 @@
 -- A case with other p-values is the content of a case still, and has the same opening.
-use Rattle.std.proofs.Common.{◌≡◌, refl, sym, ap, subst, ◌∙◌, inl, inr, ℕ, zero, suc, ◌<◌, List, [], ◌∷◌, length, map, slice_get, arith}
-use Rattle.std.proofs.Common.{true, cond, Option, Some, None, is_some, Result, Ok, Err, set, get_or, ◌+◌}
+use Rattle.std.proofs.Common.{◌≡◌, refl, sym, ap, subst, ◌∙◌, inl, inr, ℕ, ◌<◌, List, [], ◌∷◌, length, arith}
+use Rattle.std.proofs.Common.{Result, Ok, Err, set, get_or, ◌+◌}
 use Rattle.std.proofs.lemmas.Bool.{cases_eq}
-use Rattle.std.proofs.lemmas.List.{length-map, get_or-set_same, get_or-set_other, get_or_default}
-use Rattle.std.proofs.Math.Logic.{∥∥₁_elim, ∥∥₁_prop}
-use Rattle.std.specs.List.{list_any}
+use Rattle.std.proofs.lemmas.List.{get_or-set_same, get_or-set_other, get_or_default}
 use Rattle.std.specs.Prelude.{IfOk, IfErr, IsErrAnd}
 use Rattle.field_core.specs.declared.ratio.Ratio.{Ratio}
 use Rattle.field_core.proofs.Live.{true_or_false}
 use Rattle.fraction.specs.View.{number_of}
-use Rattle.case_model.specs.declared.draft.Draft.{Draft}
-use Rattle.case_model.specs.declared.inputs.Inputs.TheVariants.{Bare, Single}
-use Rattle.case_model.specs.CaseFaults.{case_fault}
-use Rattle.case_model.specs.Content.{Content, content_of, given, inputs_of, is_plain}
-use Rattle.case_model.specs.Draft.{ArePValues, is_p_value, is_short_p_value, is_unit}
-use Rattle.case_model.specs.ValidDraft.{IsValidDraft, HasWrittenSums, AreValidPlaces}
-use Rattle.case_model.specs.Validity.{FaultlessDraft, IsValidContent}
-use Rattle.case_model.proofs.DraftTests.{all_each, unit_of}
-use Rattle.case_model.proofs.DraftValidity.{valid_draft, written_sums, no_fault}
-use Rattle.case_model.proofs.Faultless.{no_arrivals}
-use Rattle.case_model.proofs.Holding.{both}
-use Rattle.case_model.proofs.ValidContents.{shape_of_draft}
+use Rattle.case_model.specs.Content.{Content, is_plain}
+use Rattle.case_model.specs.declared.inputs.Inputs.TheVariants.{Single}
+use Rattle.case_model.specs.Validity.{IsValidContent}
+use Rattle.case_model.proofs.ValidContents.{with_inputs}
 use Rattle.case_model.specs.Sums.{number_at, ratio_at, zero_ratio}
 use Rattle.field_core.specs.Arithmetic.{◌*ε◌}
 use Rattle.field_core.specs.Steps.{◌>>=◌}
@@ -43,99 +33,8 @@ use Rattle.sequential.specs.declared.priority.Priority.{Priority}
 use Rattle.sequential.proofs.TrialFacts.{sizes_are, p_values_are}
 use Rattle.field_core.specs.Laws.Prefixes.{ok_same}
 
--- ---- places that are all filled
-
-given_all : (ps : List Ratio) → given (map (λ p. Some p) ps) ≡ ps
-unfolding given
-given_all [] = refl
-given_all (p ∷ ps) = ap (λ qs. p ∷ qs) (given_all ps)
-
-some_filled : (ps : List Ratio) → 0 < length ps → list_any is_some (map (λ p. Some p) ps) ≡ true
-some_filled [] h = absurd (omega arith)
-some_filled (p ∷ ps) h = refl
-
--- what fills a place is the p-value there
-filled_at : (ps : List Ratio) (i : ℕ) (o : Option Ratio) → slice_get (map (λ p. Some p) ps) i ≡ Some o → (p : Ratio) × (slice_get ps i ≡ Some p) × (o ≡ Some p)
-filled_at [] zero o e = absurd (let q : ◌≡◌ {A = Option (Option Ratio)} None (Some o) = e in cc)
-filled_at [] (suc i) o e = absurd (let q : ◌≡◌ {A = Option (Option Ratio)} None (Some o) = e in cc)
-filled_at (p ∷ ps) zero o e = (p, refl, (let q : ◌≡◌ {A = Option (Option Ratio)} (Some (Some p)) (Some o) = e in cc))
-filled_at (p ∷ ps) (suc i) o e = filled_at ps i o e
-
-module _ (m : ℕ) (ps : List Ratio) (h : ArePValues m ps) where
-  -- a p-value at a place is one
-  is_one : (i : ℕ) (p : Ratio) → slice_get (map (λ p. Some p) ps) i ≡ Some (Some p) → is_p_value p ≡ true
-  is_one i p e =
-      let f = filled_at ps i (Some p) e in
-      let same : p ≡ f.0 = let q = f.2 in cc in
-      ap is_p_value same ∙ all_each is_p_value ps h.each i f.0 f.1
-
-  all_filled : AreValidPlaces m (map (λ p. Some p) ps)
-  unfolding is_p_value
-  all_filled = record {
-    count = inr (simp length-map h.count);
-    all = λ i j p e f. let g = filled_at ps j None f in let q = g.2 in cc;
-    short = λ i p e. (both (is_short_p_value p) (is_unit (number_of p)) (is_one i p e)).left;
-    unit = λ i p e. unit_of (number_of p) (both (is_short_p_value p) (is_unit (number_of p)) (is_one i p e)).right;
-  }
-
--- ---- drafts
-
-names_of : (d : Draft) → (content_of d).names ≡ d.names
-unfolding content_of
-names_of d = refl
-
--- the draft without stages that has these p-values
-abbrev draft_with : Draft → List Ratio → Draft
-draft_with d ps = record d { p = map (λ p. Some p) ps; stages = None }
-
-module _ (d : Draft) (h : case_fault d ≡ None) (ps : List Ratio) (are : ArePValues (length d.names) ps) where
-  valid_with : IsValidDraft (draft_with d ps)
-  valid_with = let v = valid_draft d h in record {
-    names = v.names;
-    some = v.some;
-    few = v.few;
-    short_level = v.short_level;
-    level = v.level;
-    components = v.components;
-    shares = v.shares;
-    p_values = all_filled (length d.names) ps are;
-    unmixed = λ s e. absurd (cc);
-    stages = λ s e. absurd (cc);
-  }
-
-  sums_with : HasWrittenSums (draft_with d ps)
-  sums_with = let w = written_sums d h in record { shares = w.shares; weights = w.weights; rows = w.rows; spends = λ s e. absurd (cc) }
-
-  faultless_with : case_fault (draft_with d ps) ≡ None
-  faultless_with = no_fault (draft_with d ps) valid_with sums_with
-
-  some_with : 0 < length ps
-  some_with =
-      let s : 0 < length d.names = subst (λ ns. 0 < length ns) (names_of d) (shape_of_draft d h).some in
-      omega (arith, s, are.count)
-
--- the p-values of the draft are those that are given
-inputs_with : (ps : List Ratio) → 0 < length ps → inputs_of None (map (λ p. Some p) ps) ≡ Single ps
-inputs_with ps h =
-    ap (λ b. cond b (Single (given (map (λ p. Some p) ps))) Bare) (some_filled ps h) ∙ ap Single (given_all ps)
-
-content_with : (d : Draft) (ps : List Ratio) → 0 < length ps → content_of (draft_with d ps) ≡ with_p (content_of d) ps
-unfolding content_of
-content_with d ps h = ap (λ i. record (content_of d) { inputs = i }) (inputs_with ps h)
-
 pub valid_with_p : CasesAreValidWithOtherPValues
-valid_with_p c ps v are = ∥∥₁_elim v ∥∥₁_prop (λ f. ∣ changed f ∣₁)
-  where
-    changed : FaultlessDraft c → FaultlessDraft (with_p c ps)
-    changed f =
-        let names : f.draft.names ≡ c.names = sym (names_of f.draft) ∙ ap (λ k. k.names) f.content_is in
-        let each : ArePValues (length f.draft.names) ps = subst (λ ns. ArePValues (length ns) ps) (sym names) are in
-        record {
-          draft = draft_with f.draft ps;
-          content_is = content_with f.draft ps (some_with f.draft f.faultless ps each) ∙ ap (λ k. with_p k ps) f.content_is;
-          faultless = faultless_with f.draft f.faultless ps each;
-          known_arrivals = no_arrivals (draft_with f.draft ps) refl;
-        }
+valid_with_p c ps v are = with_inputs c (Single ps) v are
 
 -- the p-values write nothing in the opening
 pub opening_with : (c : Content) (ps : List Ratio) → case_opening (with_p c ps) ≡ case_opening c

@@ -1,23 +1,16 @@
 -- The arrivals of a case may come one after another.
-use Rattle.std.proofs.Common.{◌≡◌, refl, sym, ap, subst, ◌∙◌, ℕ, zero, suc, ◌<◌, arith, List, [], ◌∷◌, ◌++◌, length, slice_get}
-use Rattle.std.proofs.Common.{Bool, true, false, cond, ◌&&◌, nat_le, Option, Some, None, is_some}
-use Rattle.std.proofs.Math.Logic.{∥∥₁_elim}
+use Rattle.std.proofs.Common.{◌≡◌, refl, sym, ap, ◌∙◌, ℕ, zero, suc, ◌<◌, arith, List, [], ◌∷◌, ◌++◌, length, slice_get}
+use Rattle.std.proofs.Common.{true, ◌&&◌, nat_le, Some}
 use Rattle.std.proofs.lemmas.Bool.Decides.{nat_tests}
-use Rattle.std.specs.List.{Contains, list_any, list_all}
-use Rattle.field_core.specs.declared.ratio.Ratio.{Ratio}
-use Rattle.case_model.specs.declared.draft.Draft.{Draft}
-use Rattle.case_model.specs.declared.draft_stages.DraftStages.{DraftStages}
+use Rattle.std.specs.List.{Contains, list_all}
 use Rattle.case_model.specs.declared.draft_stages.Arrival.{Arrival}
 use Rattle.case_model.specs.declared.inputs.Inputs.{Inputs}
 use Rattle.case_model.specs.declared.inputs.Inputs.TheVariants.{Bare, Single, Staged}
 use Rattle.case_model.specs.Draft.{arrives_among, is_stage, is_p_value}
-use Rattle.case_model.specs.Content.{Content, content_of, inputs_of, given, is_arrival, AreStages, IfStaged}
-use Rattle.case_model.specs.CaseFaults.{case_fault}
-use Rattle.case_model.specs.ValidDraft.{EachTwo}
-use Rattle.case_model.specs.Validity.{IsValidContent}
+use Rattle.case_model.specs.Content.{Content, is_arrival, AreStages, IfStaged}
+use Rattle.case_model.specs.Validity.{EachTwo, AreValidInputs, IsValidContent}
 use Rattle.case_model.specs.StagedCase.{stages_in}
 use Rattle.case_model.proofs.DraftTests.{all_each}
-use Rattle.case_model.proofs.DraftValidity.{valid_draft}
 use Rattle.case_model.proofs.Holding.{both}
 use Rattle.case_model.proofs.StageShapes.{stage_shape}
 use Rattle.staged_levels.specs.Studies.{IsStage, MayArrive}
@@ -28,24 +21,13 @@ use Rattle.staged_levels.specs.Looks.{arrivals_of}
 abbrev AreDistinct : List Arrival → Type 0
 AreDistinct arrivals = EachTwo arrivals (λ a b. ¬ ((a.hypothesis ≡ b.hypothesis) × (a.stage ≡ b.stage)))
 
-distinct_given : (b : Bool) (ps : List Ratio) → AreDistinct (arrivals_of (cond b (Single ps) Bare))
-distinct_given true ps i j x y h e f = absurd (cc)
-distinct_given false ps i j x y h e f = absurd (cc)
-
-distinct_in : (d : Draft) → case_fault d ≡ None → AreDistinct (arrivals_of (content_of d).inputs)
-unfolding content_of
-distinct_in d h = by_stages d.stages refl
-  where
-    by_stages : (o : Option DraftStages) → d.stages ≡ o → AreDistinct (arrivals_of (inputs_of o d.p))
-    by_stages None e = distinct_given (list_any is_some d.p) (given d.p)
-    by_stages (Some s) e = ((valid_draft d h).stages s e).once
-
-AreDistinct-prop : (arrivals : List Arrival) → IsProp (AreDistinct arrivals)
-AreDistinct-prop arrivals = hlevel
-
 distinct_arrivals : (c : Content) → IsValidContent c → AreDistinct (arrivals_of c.inputs)
-distinct_arrivals c v = ∥∥₁_elim v (AreDistinct-prop (arrivals_of c.inputs))
-    (λ f. subst (λ c. AreDistinct (arrivals_of c.inputs)) f.content_is (distinct_in f.draft f.faultless))
+distinct_arrivals c v = by c.inputs v.inputs
+  where
+    by : (i : Inputs) → AreValidInputs (length c.names) c.alpha i → AreDistinct (arrivals_of i)
+    by Bare w i j x y l e f = absurd (cc e)
+    by (Single ps) w i j x y l e f = absurd (cc e)
+    by (Staged s) w i j x y l e f = w.once i j x y l e f
 
 -- ---- each of a hypothesis at a stage, with a p-value
 

@@ -36,16 +36,16 @@ use Rattle.study_cli.specs.KeeperWays.{over_keeper, over_opening}
 use Rattle.study_cli.specs.StudyStages.{HasOpening, opened, study_stage, on_looks}
 use Rattle.study_cli.proofs.Looks.{with_none}
 
--- ---- stages on told looks
+-- ---- stages on known looks
 
 module _ {A : Type 0} (s : List Look → Stage Refusal A) (looks : List Look) where
-  pub gives_on : (kept : Option (List Look)) (x : A) → IfSome kept (λ told. told ≡ looks) → (s looks).Gives x → (on_looks kept s).Gives x
-  gives_on None x told h = (looks, h)
-  gives_on (Some them) x told h = subst (λ ls. (s ls).Gives x) (sym told) h
+  pub gives_on : (kept : Option (List Look)) (x : A) → IfSome kept (λ known. known ≡ looks) → (s looks).Gives x → (on_looks kept s).Gives x
+  gives_on None x known h = (looks, h)
+  gives_on (Some them) x known h = subst (λ ls. (s ls).Gives x) (sym known) h
 
-  pub refuses_on : (kept : Option (List Look)) (r : Refusal) → IfSome kept (λ told. told ≡ looks) → (s looks).Refuses r → (on_looks kept s).Refuses r
-  refuses_on None r told h = (looks, h)
-  refuses_on (Some them) r told h = subst (λ ls. (s ls).Refuses r) (sym told) h
+  pub refuses_on : (kept : Option (List Look)) (r : Refusal) → IfSome kept (λ known. known ≡ looks) → (s looks).Refuses r → (on_looks kept s).Refuses r
+  refuses_on None r known h = (looks, h)
+  refuses_on (Some them) r known h = subst (λ ls. (s ls).Refuses r) (sym known) h
 
 -- ---- the kept looks
 
@@ -54,23 +54,23 @@ module _ (c : Content) (kept : Option (List Look)) (rose : Type 0) where
       → (on_looks kept (opened c)).Refuses r
   bad_look_refused n l r h e = refuses_on (opened c) h.0 kept r h.2 (BadLook n l, h.1, e)
 
-  pub bad_look_told : (why : RegisterFault) (n : ℕ) (l : Look) (r : Refusal) → why ≡ BadLook n l → IsRegisterFault c kept rose why
+  pub bad_look_reported : (why : RegisterFault) (n : ℕ) (l : Look) (r : Refusal) → why ≡ BadLook n l → IsRegisterFault c kept rose why
       → r ≡ record_refusal n → (on_looks kept (opened c)).Refuses r
-  bad_look_told why n l r is h e = bad_look_refused n l r (subst (IsRegisterFault c kept rose) is h) e
+  bad_look_reported why n l r is h e = bad_look_refused n l r (subst (IsRegisterFault c kept rose) is h) e
 
-  wide_opening_told : (looks : Option (List Look)) (n : ℕ) (w : WideAt) (r : Refusal) → (n ≡ 0) × (case_opening c ≡ Err w)
+  wide_opening_reported : (looks : Option (List Look)) (n : ℕ) (w : WideAt) (r : Refusal) → (n ≡ 0) × (case_opening c ≡ Err w)
       → r ≡ wide_refusal c.names (AfterLook n) w → (on_looks looks (opened c)).Refuses r
-  wide_opening_told None n w r h e = ([], (Wide n w, inl h, e))
-  wide_opening_told (Some looks) n w r h e = (Wide n w, inl h, e)
+  wide_opening_reported None n w r h e = ([], (Wide n w, inl h, e))
+  wide_opening_reported (Some looks) n w r h e = (Wide n w, inl h, e)
 
   wide_look_refused : (n : ℕ) (w : WideAt) (r : Refusal) → IsRegisterFault c kept rose (Wide n w) → r ≡ wide_refusal c.names (AfterLook n) w
       → (on_looks kept (opened c)).Refuses r
-  wide_look_refused n w r (inl h) e = wide_opening_told kept n w r h e
+  wide_look_refused n w r (inl h) e = wide_opening_reported kept n w r h e
   wide_look_refused n w r (inr h) e = refuses_on (opened c) h.0 kept r h.2 (Wide n w, inr h.1, e)
 
-  pub wide_look_told : (why : RegisterFault) (n : ℕ) (w : WideAt) (r : Refusal) → why ≡ Wide n w → IsRegisterFault c kept rose why
+  pub wide_look_reported : (why : RegisterFault) (n : ℕ) (w : WideAt) (r : Refusal) → why ≡ Wide n w → IsRegisterFault c kept rose why
       → r ≡ wide_refusal c.names (AfterLook n) w → (on_looks kept (opened c)).Refuses r
-  wide_look_told why n w r is h e = wide_look_refused n w r (subst (IsRegisterFault c kept rose) is h) e
+  wide_look_reported why n w r is h e = wide_look_refused n w r (subst (IsRegisterFault c kept rose) is h) e
 
 -- the keeper's fault, after a defined opening
 pub rose_by : (c : Content) (kept : Option (List Look)) (rose : Type 0) (why : RegisterFault) → why ≡ Fault → IsRegisterFault c kept rose why
@@ -108,14 +108,14 @@ replied_may c (x ∷ xs) n s t [] h = absurd h
 replied_may c (x ∷ xs) n s t (r ∷ rs) h = inr (r, h.0, looks_taken rs, h.1, refl, replied_may c xs (n + 1) h.0 t rs h.2)
 
 module _ (c : Content) (commands : List StudyCommand) (looks : List Look) (s : StudyState) (T : AreTaken c looks s) (kept held : Option (List Look))
-    (told : IfSome kept (λ them. them ≡ looks)) (start before later : ℕ) (once : before ≡ start + 1) where
+    (known : IfSome kept (λ them. them ≡ looks)) (start before later : ℕ) (once : before ≡ start + 1) where
   pub all_given : (n : ℕ) (text written : List ℕ) (t : StudyState) (answer : Answer) → n ≡ length s.values → text ≡ opened_lines c n
       → AreRepliedTo c s commands kept held before later text written t → answer ≡ done (written ++ line (codes "end"))
       → KeepWith (on_looks kept (study_stage c commands)).Gives kept held start later answer
   unfolding study_stage study_report
   all_given n text written t answer count e a d = record {
     more = looks_taken a.replies;
-    given = gives_on (study_stage c commands) looks kept (record { answer = answer; looks = looks_taken a.replies }) told (
+    given = gives_on (study_stage c commands) looks kept (record { answer = answer; looks = looks_taken a.replies }) known (
       s,
       T,
       inl (record {
@@ -138,7 +138,7 @@ module _ (c : Content) (commands : List StudyCommand) (looks : List Look) (s : S
   unfolding study_stage
   break_given place w answer b d = record {
     more = b.more;
-    given = gives_on (study_stage c commands) looks kept (record { answer = answer; looks = b.more }) told
+    given = gives_on (study_stage c commands) looks kept (record { answer = answer; looks = b.more }) known
         (s, T, inr (record { place = place; wide = w; first = b.may.0; answer_is = d }));
     held_is = b.held_is;
     calls_are = omega (arith, once, b.may.1);
@@ -146,7 +146,7 @@ module _ (c : Content) (commands : List StudyCommand) (looks : List Look) (s : S
 
   -- some looks of the commands may be kept
   may_keep : (more : List Look) → MayTake c 1 s commands more → MayKeep c commands kept more
-  may_keep more h = inr (record { looks = looks; told = told; start = s; opened = T; may = h })
+  may_keep more h = inr (record { looks = looks; known = known; start = s; opened = T; may = h })
 
   pub some_kept : HoldSome (MayTake c 1 s commands) kept held → HoldSome (MayKeep c commands kept) kept held
   some_kept h = record { more = h.more; may = may_keep h.more h.may; held_is = h.held_is }

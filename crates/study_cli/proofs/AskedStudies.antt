@@ -19,21 +19,21 @@ use Rattle.graph_cli.specs.declared.kind.InputKind.TheVariants.{Awaited}
 use Rattle.staged_levels.specs.StudyAnswers.{IsStaged}
 use Rattle.study_cli.specs.AnswerView.{HoldSome, IsLastFailed}
 use Rattle.study_cli.specs.KeeperWays.{over_keeper}
-use Rattle.study_cli.specs.StudyOutcome.{study_needs, case_of, study_call, study_outcome, IsStudied, IsOpened, MayBeKept, ReadRose, KeeperRose, MayEnd}
+use Rattle.study_cli.specs.StudyOutcome.{study_needs, case_of, study_call, study_outcome, HasStudyCase, HasStudyOpening, MayBeKept, ReadRose, KeeperRose, MayEnd}
 
 module _ (words : List (List ℕ)) (case commands : Option (List ℕ)) (kept held : Option (List Look)) (before now : ℕ) (asked : StudyAsked) (asks : AskStudy words asked)
     (P Q R read_clean keeper_clean : Type 0) where
   -- the ways of the study that is requested
   abbrev Called : Ways Answer
   Called = over_keeper (study_call asked case commands kept) (MayBeKept asked case commands kept)
-      (P ⊎ (IsStudied asked case × Q)) (IsOpened asked case commands × R) read_clean keeper_clean kept held before now
+      (P ⊎ (HasStudyCase asked case × Q)) (HasStudyOpening asked case commands × R) read_clean keeper_clean kept held before now
 
   -- the ways of the call with these words
   abbrev Whole : Ways Answer
   Whole = over_keeper (study_outcome words case commands kept) (MayEnd words case commands kept)
       (ReadRose words case P Q) (KeeperRose words case commands R) read_clean keeper_clean kept held before now
 
-  rose_by : P ⊎ (IsStudied asked case × Q) → ReadRose words case P Q
+  rose_by : P ⊎ (HasStudyCase asked case × Q) → ReadRose words case P Q
   rose_by (inl p) = inl ((asked, asks), p)
   rose_by (inr q) = inr ((asked, asks, q.0), q.1)
 

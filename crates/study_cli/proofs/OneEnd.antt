@@ -19,7 +19,7 @@ use Rattle.study_register.specs.declared.fault.RegisterFault.TheVariants.{BadLoo
 use Rattle.study_register.specs.Looking.{arrival_of}
 use Rattle.study_register.proofs.OneEnd.{reopenings_agree, taken_not_stopped, stops_unique, wide_openings, looks_have_one_end}
 use Rattle.study_cli.specs.Replies.{taken_in, looks_taken, IsReply, AreReplies, IsBreak, IsFirstBreak}
-use Rattle.study_cli.specs.StudyStages.{StudyEnd, IsOpeningFault, IsToldAs, opened, AreAllAnswered, IsBrokenOff, answering, study_stage}
+use Rattle.study_cli.specs.StudyStages.{StudyEnd, IsOpeningFault, ReportsOpeningFault, opened, AreAllAnswered, IsBrokenOff, answering, study_stage}
 use Rattle.study_cli.specs.StudyStatements.{StudiesHaveOneEnd}
 
 module _ (c : Content) where
@@ -129,11 +129,11 @@ module _ (c : Content) where
   one_opening_fault looks Fault g h b = absurd h
   one_opening_fault looks NoMemory g h b = absurd h
 
-  told_once : (why : RegisterFault) (r q : Refusal) → IsToldAs c.names why r → IsToldAs c.names why q → r ≡ q
-  told_once (BadLook n l) r q h b = h ∙ sym b
-  told_once (Wide n w) r q h b = h ∙ sym b
-  told_once Fault r q h b = absurd h
-  told_once NoMemory r q h b = absurd h
+  one_refusal_of : (why : RegisterFault) (r q : Refusal) → ReportsOpeningFault c.names why r → ReportsOpeningFault c.names why q → r ≡ q
+  one_refusal_of (BadLook n l) r q h b = h ∙ sym b
+  one_refusal_of (Wide n w) r q h b = h ∙ sym b
+  one_refusal_of Fault r q h b = absurd h
+  one_refusal_of NoMemory r q h b = absurd h
 
   taken_not_refused : (looks : List Look) (s : StudyState) (why : RegisterFault) → (opened c looks).Gives s → ¬ IsOpeningFault c looks why
   taken_not_refused looks s (BadLook n l) T h = taken_not_stopped c looks s (BadLook n l) T h
@@ -145,7 +145,7 @@ module _ (c : Content) where
   opened_decided : (looks : List Look) → IsDecided (opened c looks)
   opened_decided looks = record {
     one = λ s t h g. reopenings_agree c looks s t h g;
-    one_refusal = λ r q h g. told_once h.0 r q h.2 (subst (λ why. IsToldAs c.names why q) (one_opening_fault looks g.0 h.0 g.1 h.1) g.2);
+    one_refusal = λ r q h g. one_refusal_of h.0 r q h.2 (subst (λ why. ReportsOpeningFault c.names why q) (one_opening_fault looks g.0 h.0 g.1 h.1) g.2);
     not_both = λ s r h g. taken_not_refused looks s g.0 h g.1;
   }
 

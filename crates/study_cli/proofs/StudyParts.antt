@@ -17,14 +17,14 @@ use Rattle.study_cli.specs.AnswerView.{HoldSome, IsLastFailed, MayKeep}
 use Rattle.study_cli.specs.KeeperWays.{over_keeper}
 use Rattle.study_cli.specs.StudyStages.{HasOpening, study_stage, on_looks}
 use Rattle.study_cli.proofs.Looks.{with_none}
-use Rattle.study_cli.specs.StudyOutcome.{case_of, commands_in, commands_from, study_call, IsStudied, IsOpened, MayBeKept}
+use Rattle.study_cli.specs.StudyOutcome.{case_of, commands_in, commands_from, study_call, HasStudyCase, HasStudyOpening, MayBeKept}
 
 module _ (asked : StudyAsked) (case commands : Option (List ℕ)) (kept held : Option (List Look)) (before now : ℕ)
     (case_rose commands_rose keeper_rose case_clean commands_clean keeper_clean : Type 0) where
   -- the ways of the call
   abbrev Called : Ways Answer
   Called = over_keeper (study_call asked case commands kept) (MayBeKept asked case commands kept)
-      (case_rose ⊎ (IsStudied asked case × commands_rose)) (IsOpened asked case commands × keeper_rose)
+      (case_rose ⊎ (HasStudyCase asked case × commands_rose)) (HasStudyOpening asked case commands × keeper_rose)
       (case_clean × commands_clean) keeper_clean kept held before now
 
   -- nothing is kept before the keeper is asked

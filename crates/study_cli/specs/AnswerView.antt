@@ -81,13 +81,13 @@ abbrev pub IsLastFailed : (before now : ℕ) → List Look → Type 0
 IsLastFailed before now more = ((more ≡ []) × (now ≡ before + 1)) ⊎ (now ≡ before + (2 + length more))
 
 -- the looks that are kept are all taken, and then these looks by the commands before some place
-pub record MayTakeBehind (c : Content) (commands : List StudyCommand) (kept : Option (List Look)) (more : List Look) : Type 0 where
+pub record MayTakeAfter (c : Content) (commands : List StudyCommand) (kept : Option (List Look)) (more : List Look) : Type 0 where
   pub looks : List Look
-  pub told : IfSome kept (λ them. them ≡ looks)
+  pub known : IfSome kept (λ them. them ≡ looks)
   pub start : StudyState
   pub opened : AreTaken c looks start
   pub may : MayTake c 1 start commands more
 
 -- the looks that may be added if a call stops part way: none, or those that the commands before some place take
 abbrev pub MayKeep : Content → List StudyCommand → Option (List Look) → List Look → Type 0
-MayKeep c commands kept more = (more ≡ []) ⊎ MayTakeBehind c commands kept more
+MayKeep c commands kept more = (more ≡ []) ⊎ MayTakeAfter c commands kept more

@@ -1,4 +1,4 @@
--- What words, a case, commands and kept looks call for: the first stage that refuses decides.
+-- What words, a case, commands and kept looks require: the first stage that refuses decides.
 use Rattle.std.specs.Prelude.{◌≡◌, ◌⊎◌, ◌≤◌, ◌+◌, ℕ, List, [], Option, Some, Result, OnOk, codes}
 use Rattle.std.specs.Io.KnownBytes.{IsAtEnd}
 use Rattle.graph_io.specs.Causes.{Rose}
@@ -38,7 +38,7 @@ commands_in c bytes = record {
   Refuses = λ r. (n : ℕ) × (kind : LineKind) × IsFirstFault c.names bytes n kind × (r ≡ commands_refusal n kind);
 }
 
--- the case that a study asks for, if it can take it
+-- the case that a source denotes, if a study can take it
 abbrev pub case_of : StudyAsked → Option (List ℕ) → Stage Refusal Content
 case_of asked case = accepted asked.format study_needs case
 
@@ -55,16 +55,16 @@ abbrev pub study_outcome : List (List ℕ) → Option (List ℕ) → Option (Lis
 study_outcome words case commands kept = and_then (told_as usage (stage_of (study_in words))) (λ asked. study_call asked case commands kept)
 
 -- the source denotes a case that a study can take
-abbrev pub IsStudied : StudyAsked → Option (List ℕ) → Type 0
-IsStudied asked case = (c : Content) × (case_of asked case).Gives c
+abbrev pub HasStudyCase : StudyAsked → Option (List ℕ) → Type 0
+HasStudyCase asked case = (c : Content) × (case_of asked case).Gives c
 
 -- the source denotes no case that a study can take
-abbrev pub IsUnstudied : StudyAsked → Option (List ℕ) → Type 0
-IsUnstudied asked case = (r : Refusal) × (case_of asked case).Refuses r
+abbrev pub HasNoStudyCase : StudyAsked → Option (List ℕ) → Type 0
+HasNoStudyCase asked case = (r : Refusal) × (case_of asked case).Refuses r
 
 -- also, the source denotes commands
-abbrev pub IsCommanded : StudyAsked → Option (List ℕ) → Option (List ℕ) → Type 0
-IsCommanded asked case commands = (c : Content) × (case_of asked case).Gives c × (list : List StudyCommand) × (commands_from c commands).Gives list
+abbrev pub HasStudyCommands : StudyAsked → Option (List ℕ) → Option (List ℕ) → Type 0
+HasStudyCommands asked case commands = (c : Content) × (case_of asked case).Gives c × (list : List StudyCommand) × (commands_from c commands).Gives list
 
 -- also, the looks that may be added if the call stops part way
 abbrev pub MayBeKept : StudyAsked → Option (List ℕ) → Option (List ℕ) → Option (List Look) → List Look → Type 0
@@ -73,8 +73,8 @@ MayBeKept asked case commands kept more =
     × (commands_from c commands).Gives list × MayKeep c list kept more)
 
 -- also, the opening of the case is defined
-abbrev pub IsOpened : StudyAsked → Option (List ℕ) → Option (List ℕ) → Type 0
-IsOpened asked case commands = (c : Content) × (case_of asked case).Gives c
+abbrev pub HasStudyOpening : StudyAsked → Option (List ℕ) → Option (List ℕ) → Type 0
+HasStudyOpening asked case commands = (c : Content) × (case_of asked case).Gives c
     × (list : List StudyCommand) × (commands_from c commands).Gives list × HasOpening c
 
 -- a keeper was not called; or the source denotes commands, and the calls are at most one more than the looks that they ask for
@@ -83,21 +83,21 @@ IsCalledWithin asked case commands before now =
     (now ≡ before) ⊎ ((c : Content) × (case_of asked case).Gives c × (list : List StudyCommand) × (commands_from c commands).Gives list
     × (now ≤ before + (1 + looks_asked list)))
 
--- the words ask a study for something
+-- the words are those of a study
 abbrev pub ReadsCase : List (List ℕ) → Type 0
 ReadsCase words = (asked : StudyAsked) × AskStudy words asked
 
 -- also, nothing before the commands refuses
 abbrev pub ReadsCommands : List (List ℕ) → Option (List ℕ) → Type 0
-ReadsCommands words case = (asked : StudyAsked) × AskStudy words asked × IsStudied asked case
+ReadsCommands words case = (asked : StudyAsked) × AskStudy words asked × HasStudyCase asked case
 
 -- also, nothing before the kept looks refuses
 abbrev pub AsksKeeper : List (List ℕ) → Option (List ℕ) → Option (List ℕ) → Type 0
-AsksKeeper words case commands = (asked : StudyAsked) × AskStudy words asked × IsCommanded asked case commands
+AsksKeeper words case commands = (asked : StudyAsked) × AskStudy words asked × HasStudyCommands asked case commands
 
--- the words ask a study for something, and the case is refused
+-- the words are those of a study, and the case is refused
 abbrev pub RefusesCase : List (List ℕ) → Option (List ℕ) → Type 0
-RefusesCase words case = (asked : StudyAsked) × AskStudy words asked × IsUnstudied asked case
+RefusesCase words case = (asked : StudyAsked) × AskStudy words asked × HasNoStudyCase asked case
 
 -- a source that is read had a fault
 abbrev pub ReadRose : List (List ℕ) → Option (List ℕ) → Type 0 → Type 0 → Type 0
@@ -105,13 +105,13 @@ ReadRose words case case_rose commands_rose = (ReadsCase words × case_rose) ⊎
 
 -- the keeper is asked, after a defined opening, and had a fault
 abbrev pub KeeperRose : List (List ℕ) → Option (List ℕ) → Option (List ℕ) → Type 0 → Type 0
-KeeperRose words case commands rose = (asked : StudyAsked) × AskStudy words asked × IsOpened asked case commands × rose
+KeeperRose words case commands rose = (asked : StudyAsked) × AskStudy words asked × HasStudyOpening asked case commands × rose
 
 -- the looks that may be added if a call with these words stops part way
 abbrev pub MayEnd : List (List ℕ) → Option (List ℕ) → Option (List ℕ) → Option (List Look) → List Look → Type 0
 MayEnd words case commands kept more = (more ≡ []) ⊎ ((asked : StudyAsked) × AskStudy words asked × MayBeKept asked case commands kept more)
 
--- a keeper was not called; or the words ask a study for something, and `IsCalledWithin` bounds the calls
+-- a keeper was not called; or the words are those of a study, and `IsCalledWithin` bounds the calls
 abbrev pub CallsWithin : List (List ℕ) → Option (List ℕ) → Option (List ℕ) → (before now : ℕ) → Type 0
 CallsWithin words case commands before now =
     (now ≡ before) ⊎ ((asked : StudyAsked) × AskStudy words asked × IsCalledWithin asked case commands before now)
@@ -123,8 +123,8 @@ abbrev pub study_ways : StudyAsked → (case_old case_new commands_old commands_
 study_ways asked case_old case_new commands_old commands_new keeper_old keeper_new =
     over_keeper (study_call asked case_old.left commands_old.left keeper_old.looks)
     (MayBeKept asked case_old.left commands_old.left keeper_old.looks)
-    (Rose case_old.faults case_new.faults ⊎ (IsStudied asked case_old.left × Rose commands_old.faults commands_new.faults))
-    (IsOpened asked case_old.left commands_old.left × Rose keeper_old.faults keeper_new.faults)
+    (Rose case_old.faults case_new.faults ⊎ (HasStudyCase asked case_old.left × Rose commands_old.faults commands_new.faults))
+    (HasStudyOpening asked case_old.left commands_old.left × Rose keeper_old.faults keeper_new.faults)
     ((case_new.faults ≡ case_old.faults) × (commands_new.faults ≡ commands_old.faults)) (keeper_new.faults ≡ keeper_old.faults)
     keeper_old.looks keeper_new.looks keeper_old.calls keeper_new.calls
 
@@ -145,6 +145,6 @@ pub record TakesFrom {S : Type 0} (left : S → Option (List ℕ)) (Reads : Type
 
 -- ---- the file of the looks
 
--- the words ask a study for something, and the option `store` is given with this value
+-- the words are those of a study, and the option `store` is given with this value
 abbrev pub NamesStore : List (List ℕ) → List ℕ → Type 0
 NamesStore words path = (asked : StudyAsked) × AskStudy words asked × (asked.store ≡ Some path)

@@ -34,17 +34,17 @@ IsOpeningFault c looks Fault = ⊥
 IsOpeningFault c looks NoMemory = ⊥
 
 -- how that is reported
-abbrev pub IsToldAs : List (List ℕ) → RegisterFault → Refusal → Type 0
-IsToldAs names (BadLook n l) r = r ≡ record_refusal n
-IsToldAs names (Wide n w) r = r ≡ wide_refusal names (AfterLook n) w
-IsToldAs names Fault r = ⊥
-IsToldAs names NoMemory r = ⊥
+abbrev pub ReportsOpeningFault : List (List ℕ) → RegisterFault → Refusal → Type 0
+ReportsOpeningFault names (BadLook n l) r = r ≡ record_refusal n
+ReportsOpeningFault names (Wide n w) r = r ≡ wide_refusal names (AfterLook n) w
+ReportsOpeningFault names Fault r = ⊥
+ReportsOpeningFault names NoMemory r = ⊥
 
 -- the study of a case that has taken the kept looks; or its undefined opening, or the first look that can't be taken
 abbrev pub opened : Content → List Look → Stage Refusal StudyState
 opened c looks = record {
   Gives = AreTaken c looks;
-  Refuses = λ r. (why : RegisterFault) × IsOpeningFault c looks why × IsToldAs c.names why r;
+  Refuses = λ r. (why : RegisterFault) × IsOpeningFault c looks why × ReportsOpeningFault c.names why r;
 }
 
 -- all commands are replied to, and so it is reported

@@ -23,8 +23,8 @@ use report::opened_text;
 use std::alloc::Global;
 use study_register::{Register, RegisterFault};
 
-/// Returns the answer that a refusal is.
-fn refused(refusal: Refusal) -> Answer
+/// Returns a refusal as an answer.
+fn refusal_answer(refusal: Refusal) -> Answer
     ensures { result ≡ refused refusal }
 {
     Answer {
@@ -34,7 +34,7 @@ fn refused(refusal: Refusal) -> Answer
 }
 
 /// Opens the study of a case, and takes all looks that a keeper holds.
-fn opened<K: Keeper>(alloc: Global, case: &Case, keeper: &mut K) -> Result<Register, Stop>
+fn open_register<K: Keeper>(alloc: Global, case: &Case, keeper: &mut K) -> Result<Register, Stop>
     requires { IsStaged (content case.now).inputs }
     ensures ends { EndsIn (opening_ways (content case.now) (keeping K.Keeper keeper.old) (keeping K.Keeper keeper.new)) result }
     ensures kept { K.looks keeper.new ≡ K.looks keeper.old }
@@ -57,15 +57,20 @@ fn opened<K: Keeper>(alloc: Global, case: &Case, keeper: &mut K) -> Result<Regis
 }
 
 /// Returns the answer if a command stops part way.
-fn broken_off(alloc: Global, case: &Case, place: usize, wide: &WideAt) -> Result<Answer, NoMemory>
+fn stopped_answer(
+    alloc: Global,
+    case: &Case,
+    place: usize,
+    wide: &WideAt,
+) -> Result<Answer, NoMemory>
     ensures { IfOk result (λ answer. answer ≡ refused (wide_refusal (content case.now).names (AfterLook place) wide.now)) }
 {
     let refusal = wide_refusal(alloc, case.names(), When::Look(place), wide)?;
-    Ok(refused(refusal))
+    Ok(refusal_answer(refusal))
 }
 
-/// Returns the answer that a text of replies is, with its last line.
-fn ended(text: List<u8>) -> Result<Answer, NoMemory>
+/// Returns a text of replies, with its last line, as an answer.
+fn done_answer(text: List<u8>) -> Result<Answer, NoMemory>
     ensures { IfOk result (λ answer. answer ≡ done (text ++ line (codes "end"))) }
 {
     let mut whole = text;
@@ -96,11 +101,11 @@ pub(crate) fn study_answer<K: Keeper>(
     ensures later { K.faults keeper.old ≤ K.faults keeper.new }
     ensures turns { K.calls keeper.new ≤ K.calls keeper.old + (1 + looks_asked commands.now) }
 {
-    let mut register = opened(alloc, case, keeper)?;
+    let mut register = open_register(alloc, case, keeper)?;
     let mut text = opened_text(alloc, case, register.count())?;
     match replies(alloc, case, &mut register, keeper, commands, &mut text) {
-        Ok(()) => Ok(ended(text)?),
-        Err(CommandStop::Wide(place, wide)) => Ok(broken_off(alloc, case, place, &wide)?),
+        Ok(()) => Ok(done_answer(text)?),
+        Err(CommandStop::Wide(place, wide)) => Ok(stopped_answer(alloc, case, place, &wide)?),
         Err(CommandStop::Fault) => Err(Stop::KeeperFault),
         Err(CommandStop::NoMemory) => Err(Stop::NoMemory),
     }

@@ -26,7 +26,9 @@
 //!   added. After a fault of the keeper, and out of memory, the looks of the commands up to some place may be added. `later`:
 //!   no count of faults falls. `turns`: the keeper's calls are at most one more than the looks that the commands ask for.
 //!
-//! Proved too: `store_path`: `path`, `none`. Laws in `src/laws.rt`:
+//! - `store_path`: it returns the path that the option `store` names (`path`), and `None` only if the words name none (`none`).
+//!
+//! Laws in `src/laws.rt`:
 //! - `studies_have_one_outcome`, and of kept looks and commands `studies_have_one_end`.
 //! - `kept_looks_decide`: by any commands that are answered to their end, the rejections are those of the staged closed test on
 //!   all looks that are kept. `taken_looks_are_first`: commands that stop part way keep the first of those that all take.

@@ -5,7 +5,7 @@ ghost use Rattle.study_cli.specs.StudyOutcome.{NamesStore};
 
 use command_words::read_study;
 
-/// Returns the path that the option `store` names, if the words ask a study for something.
+/// Returns the path that the option `store` names, if the words are those of a study.
 pub fn store_path(words: &[String]) -> Option<&str>
     ensures path { IfSome result (λ path. NamesStore (words_in words.now) path.now) }
     ensures none { result ≡ None → (path : List ℕ) → ¬ NamesStore (words_in words.now) path }

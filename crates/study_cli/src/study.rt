@@ -15,9 +15,9 @@ ghost use Rattle.study_cli.specs.StudyOutcome.{
   commands_in,
   study_ways,
   ways_of,
-  IsStudied,
-  IsUnstudied,
-  IsCommanded,
+  HasStudyCase,
+  HasNoStudyCase,
+  HasStudyCommands,
   IsCalledWithin,
   ReadsCase,
   ReadsCommands,
@@ -74,9 +74,9 @@ fn study_call<S: Source, T: Source, K: Keeper>(
         (reading T.Source commands.old) (reading T.Source commands.new)
         (keeping K.Keeper keeper.old) (keeping K.Keeper keeper.new)) result }
     ensures ended { OnOk result (IsAtEnd (S.left case.new) × IsAtEnd (T.left commands.new)) }
-    ensures commands_kept { ¬ IsStudied (study_asked call.now) (S.left case.old) → commands.new ≡ commands.old }
-    ensures keeper_kept { ¬ IsCommanded (study_asked call.now) (S.left case.old) (T.left commands.old) → keeper.new ≡ keeper.old }
-    ensures commands_asked { ¬ IsUnstudied (study_asked call.now) (S.left case.old) →
+    ensures commands_kept { ¬ HasStudyCase (study_asked call.now) (S.left case.old) → commands.new ≡ commands.old }
+    ensures keeper_kept { ¬ HasStudyCommands (study_asked call.now) (S.left case.old) (T.left commands.old) → keeper.new ≡ keeper.old }
+    ensures commands_asked { ¬ HasNoStudyCase (study_asked call.now) (S.left case.old) →
         IfConcluded (T.calls commands.old < T.calls commands.new) result }
     ensures case_taken { IsTakenWithin S.left S.calls case.old case.new }
     ensures commands_taken { IsTakenWithin T.left T.calls commands.old commands.new }
@@ -89,7 +89,7 @@ fn study_call<S: Source, T: Source, K: Keeper>(
     study_answer(alloc, &accepted, keeper, list.as_slice())
 }
 
-/// Returns what these words, this case, these commands and the looks of this keeper call for.
+/// Returns the answer that these words, this case, these commands and the kept looks require.
 #[tactic(auto, using(graph_cli::proofs::Taken::untouched, crate::proofs::AskedStudies::unasked))]
 fn answer<S: Source, T: Source, K: Keeper>(
     alloc: Global,

@@ -1,4 +1,5 @@
 mod Faults
+mod Looks
 mod Memory
 mod PrintedNumbers
 mod PrintedRatios

@@ -7,6 +7,8 @@ use Rattle.graph_io.specs.declared.keeper.Look.{Look}
 use Rattle.sqlite.specs.declared.error.Error.{Error}
 use Rattle.study_sqlite.specs.declared.fault.FileFault.{FileFault}
 use Rattle.study_sqlite.specs.declared.fault.FileFault.TheVariants.{Refused, NoMemory}
+use Rattle.sqlite.specs.Recovery.{Image}
+use Rattle.sqlite_disk.specs.declared.Disk as disk
 use Rattle.study_sqlite.specs.declared.storage.Storage.{Storage}
 use Rattle.study_sqlite.specs.Counting.{IsCounted, OnNoMemory}
 use Rattle.study_sqlite.specs.FileFaults.{fault_of_error, OnMemory}
@@ -48,8 +50,8 @@ memory_passed (Err f) Refused P Q is h k = subst (OnMemory Q) (sym is) tt
 memory_passed (Err f) NoMemory P Q is h k = subst (OnMemory Q) (sym is) (k h)
 
 -- looks that were loaded were shown
-pub shown_at_most : (old new : Storage) (looks : List Look) → AreLoaded old new looks → IsLoadCut old new
-shown_at_most old new looks h =
+pub shown_at_most : {D S : Type 0} {g : disk.Ghosts D} (first : Image) → (old new : Storage D S g) (looks : List Look) → AreLoaded first old new looks → IsLoadCut first old new
+shown_at_most first old new looks h =
     inr (h.0, h.1, h.2, h.3, h.4, λ clean. let kept = h.5 clean in inr (kept.middle, kept.made, inr (kept.shown.0, kept.shown.1)))
 
 counted_out : (before now : ℕ) (f : FileFault) (said : KeeperFault) (P : Type 0) → IsCounted before now f said → OnMemory P f → OnNoMemory P said
@@ -63,13 +65,13 @@ known_out (Err keepers.Fault) P p = tt
 known_out (Err keepers.NoMemory) P p = p
 
 -- counting leaves the file of a load as it is
-pub load_cut : (before now : ℕ) (f : FileFault) (said : KeeperFault) (old middle new : Storage) → OnMemory (IsLoadCut old middle) f
-    → IsCounted before now f said → new ≡ middle → OnNoMemory (IsLoadCut old new) said
-load_cut before now f said old middle new h is same =
-    counted_out before now f said (IsLoadCut old new) is (subst (λ s. OnMemory (IsLoadCut old s) f) (sym same) h)
+pub load_cut : {D S : Type 0} {g : disk.Ghosts D} (first : Image) → (before now : ℕ) (f : FileFault) (said : KeeperFault) (old middle new : Storage D S g) → OnMemory (IsLoadCut first old middle) f
+    → IsCounted before now f said → new ≡ middle → OnNoMemory (IsLoadCut first old new) said
+load_cut first before now f said old middle new h is same =
+    counted_out before now f said (IsLoadCut first old new) is (subst (λ s. OnMemory (IsLoadCut first old s) f) (sym same) h)
 
 -- the same of an append
-pub append_cut : (before now : ℕ) (f : FileFault) (said : KeeperFault) (old middle new : Storage) (look : Look)
-    → OnMemory (IsAppendCut old middle look) f → IsCounted before now f said → new ≡ middle → OnNoMemory (IsAppendCut old new look) said
-append_cut before now f said old middle new look h is same =
-    counted_out before now f said (IsAppendCut old new look) is (subst (λ s. OnMemory (IsAppendCut old s look) f) (sym same) h)
+pub append_cut : {D S : Type 0} {g : disk.Ghosts D} (first : Image) → (before now : ℕ) (f : FileFault) (said : KeeperFault) (old middle new : Storage D S g) (look : Look)
+    → OnMemory (IsAppendCut first old middle look) f → IsCounted before now f said → new ≡ middle → OnNoMemory (IsAppendCut first old new look) said
+append_cut first before now f said old middle new look h is same =
+    counted_out before now f said (IsAppendCut first old new look) is (subst (λ s. OnMemory (IsAppendCut first old s look) f) (sym same) h)

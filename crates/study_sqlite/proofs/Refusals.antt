@@ -18,6 +18,8 @@ use Rattle.study_sqlite.specs.declared.fault.RowsFault.{RowsFault}
 use Rattle.study_sqlite.specs.declared.fault.RowsFault.TheVariants as faults
 use Rattle.study_sqlite.specs.declared.fault.RowsFault.TheVariants.{Bad}
 use Rattle.study_sqlite.specs.declared.row.LookRow.{LookRow}
+use Rattle.sqlite.specs.Recovery.{Image}
+use Rattle.sqlite_disk.specs.declared.Disk as disk
 use Rattle.study_sqlite.specs.declared.storage.Storage.{Storage}
 use Rattle.study_sqlite.specs.Counting.{IsCounted, OnFault}
 use Rattle.study_sqlite.specs.FileFaults.{fault_of_error, fault_of_rows, OnRefusal}
@@ -83,16 +85,16 @@ counted_as before now Refused said P is h = subst (OnFault P) (sym is.0) h
 counted_as before now NoMemory said P is h = subst (OnFault P) (sym is.0) tt
 
 -- the same of a load, since counting leaves the file as it is
-pub load_counted : (before now : ℕ) (f : FileFault) (said : KeeperFault) (old middle new : Storage)
-    → OnRefusal (IsLoadRefused old middle) f → IsCounted before now f said → new ≡ middle → OnFault (IsLoadRefused old new) said
-load_counted before now f said old middle new h is same =
-    counted_as before now f said (IsLoadRefused old new) is (subst (λ s. OnRefusal (IsLoadRefused old s) f) (sym same) h)
+pub load_counted : {D S : Type 0} {g : disk.Ghosts D} (first : Image) → (before now : ℕ) (f : FileFault) (said : KeeperFault) (old middle new : Storage D S g)
+    → OnRefusal (IsLoadRefused first old middle) f → IsCounted before now f said → new ≡ middle → OnFault (IsLoadRefused first old new) said
+load_counted first before now f said old middle new h is same =
+    counted_as before now f said (IsLoadRefused first old new) is (subst (λ s. OnRefusal (IsLoadRefused first old s) f) (sym same) h)
 
 -- the same of an append
-pub append_counted : (before now : ℕ) (f : FileFault) (said : KeeperFault) (old middle new : Storage) (look : Look)
-    → OnRefusal (IsAppendRefused old middle look) f → IsCounted before now f said → new ≡ middle → OnFault (IsAppendRefused old new look) said
-append_counted before now f said old middle new look h is same =
-    counted_as before now f said (IsAppendRefused old new look) is (subst (λ s. OnRefusal (IsAppendRefused old s look) f) (sym same) h)
+pub append_counted : {D S : Type 0} {g : disk.Ghosts D} (first : Image) → (before now : ℕ) (f : FileFault) (said : KeeperFault) (old middle new : Storage D S g) (look : Look)
+    → OnRefusal (IsAppendRefused first old middle look) f → IsCounted before now f said → new ≡ middle → OnFault (IsAppendRefused first old new look) said
+append_counted first before now f said old middle new look h is same =
+    counted_as before now f said (IsAppendRefused first old new look) is (subst (λ s. OnRefusal (IsAppendRefused first old s look) f) (sym same) h)
 
 -- ---- rows that are read
 

@@ -9,11 +9,11 @@ use Rattle.study_sqlite.specs.declared.fault.FileFault.TheVariants.{Refused}
 use Rattle.study_sqlite.specs.declared.keeper.SqliteKeeper.{SqliteKeeper}
 
 -- how many calls met a fault
-abbrev pub fault_count : SqliteKeeper → ℕ
+abbrev pub fault_count : {D S : Type 0} {g : _} {start : _} → SqliteKeeper D S g start → ℕ
 fault_count keeper = keeper.faults
 
 -- how many calls were made
-abbrev pub call_count : SqliteKeeper → ℕ
+abbrev pub call_count : {D S : Type 0} {g : _} {start : _} → SqliteKeeper D S g start → ℕ
 call_count keeper = keeper.calls.made
 
 -- A refusal is reported as a fault, and the count is one more then; out of memory is reported as such, and the count stays.

@@ -1,8 +1,10 @@
 pub mod Counting
 pub mod FileFaults
 pub mod Kept
+pub mod Looks
 pub mod Parts
 pub mod RowStatements
 pub mod Rows
 pub mod Statements
 pub mod Storing
+pub mod Naming

@@ -1,11 +1,12 @@
 //! What closing a file of looks gives back.
-use sqlite::{File, Files};
+use sqlite::Files;
+use sqlite_disk::Disk;
 
 /// What closing a file of looks gives back.
 #[derive(Drop)]
-pub enum Closed {
+pub enum Closed<D: Disk> {
     /// The file was never opened.
     Unopened,
     /// The log and the database file. Both are closed when they are dropped.
-    Files(Files<File>),
+    Files(Files<D>),
 }

@@ -1,30 +1,37 @@
 //! A keeper in a file.
+ghost use Rattle.sqlite.specs.WalFiles.{image_at};
 ghost use Rattle.std.specs.Prelude.{◌≡◌, ◌<◌, ◌+◌, ◌^◌, None, IfOk, IfErr, OnOk, OnErr};
 
 use crate::storage::Storage;
-use crate::table::FileConnection;
+use crate::table::{FileConnection, FileName};
 use crate::{Closed, FileFault};
 use field_core::List;
 use graph_io::{CallCount, Keeper, KeeperFault, Look};
+use sqlite::{FileFrom, Start};
+use sqlite_disk::Disk;
 use std::alloc::Global;
 
 /// A keeper of looks in a file. It doesn't expose its looks to contracts. Each call is counted; one that meets a refused statement,
 /// or a row that is not the row of a look, is also counted as a fault.
-#[derive(Drop)]
-pub struct SqliteKeeper {
-    storage: Storage,
+pub struct SqliteKeeper<D: Disk, S: Start> {
+    storage: Storage<D, S>,
     faults: u64,
     calls: CallCount,
     ghost in_range: { faults < 2 ^ 64 },
 }
 
-impl SqliteKeeper {
+/// A keeper over a file that held what `S` names as it was opened.
+pub type FileKeeper<S> = SqliteKeeper<FileFrom<S>, S>;
+
+impl<S: Start> FileKeeper<S> {
     ghost use Rattle.study_sqlite.specs.Counting.{fault_count, call_count, IsCounted};
-    ghost use Rattle.study_sqlite.specs.Storing.{storage_of, IsClosed, IsCloseFault};
-    ghost use Rattle.study_sqlite.specs.declared.storage.Storage.TheVariants.{Unopened, Opened};
+    ghost use Rattle.std.specs.Prelude.{string_bytes};
+    ghost use Rattle.study_sqlite.specs.Looks.{LeavesLooks};
+    ghost use Rattle.study_sqlite.specs.Storing.{storage_of, IsClosed, IsCloseFault, IsUnopenedAt};
+    ghost use Rattle.study_sqlite.specs.declared.storage.Storage.TheVariants.{Opened};
 
     /// Returns a keeper over this connection.
-    pub fn new(connection: FileConnection) -> SqliteKeeper
+    pub fn new(connection: FileConnection<S>) -> FileKeeper<S>
         ensures storage { storage_of result ≡ Opened connection }
         ensures faults { fault_count result ≡ 0 }
         ensures calls { call_count result ≡ 0 }
@@ -38,13 +45,13 @@ impl SqliteKeeper {
 
     /// Returns a keeper over the file at this path. The first call opens the file, and makes it if it isn't there; until then
     /// nothing is read from it or written to it.
-    pub fn at(rt: &HostRuntime, path: String) -> SqliteKeeper
-        ensures storage { storage_of result ≡ Unopened rt.now path }
+    pub fn at(rt: &HostRuntime, path: String, start: S) -> FileKeeper<S>
+        ensures storage { IsUnopenedAt (string_bytes path) (storage_of result) }
         ensures faults { fault_count result ≡ 0 }
         ensures calls { call_count result ≡ 0 }
     {
         SqliteKeeper {
-            storage: Storage::Unopened(*rt, path),
+            storage: Storage::Unopened(FileName::new(rt, path, start)),
             faults: 0,
             calls: CallCount::new(),
         }
@@ -53,11 +60,17 @@ impl SqliteKeeper {
     /// Copies what the log beside the file holds into the file, if the file was opened, and gives both back; they are closed when
     /// they are dropped. The last commit is in the file then, without the log and also after a crash, as long as the disk
     /// returned what was written. If the copying is refused, the log still holds the commit, and the next opening finds it there.
-    pub fn close(self) -> Result<Closed, FileFault>
+    pub fn close(self) -> Result<Closed<FileFrom<S>>, FileFault>
         ensures closed { IfOk result (IsClosed (storage_of self)) }
+        ensures left { IfOk result (LeavesLooks (storage_of self)) }
         ensures why { IfErr result (IsCloseFault (storage_of self)) }
     {
-        self.storage.close()
+        let SqliteKeeper {
+            storage,
+            faults: _,
+            calls: _,
+        } = self;
+        storage.close()
     }
 
     /// Counts a fault of the file, unless it is out of memory, and returns the fault of the keeper.
@@ -76,9 +89,10 @@ impl SqliteKeeper {
     }
 }
 
-impl Keeper for SqliteKeeper {
+impl<S: Start> Keeper for FileKeeper<S> {
     ghost use Rattle.graph_io.specs.Keeping.{Loads, IsCaused};
     ghost use Rattle.study_sqlite.specs.Counting.{fault_count, call_count, OnFault, OnNoMemory};
+    ghost use Rattle.study_sqlite.specs.Looks.{LoadsAll, PutsOne};
     ghost use Rattle.study_sqlite.specs.Storing.{storage_of, IsLoaded, IsAppended, IsLoadRefused, IsAppendRefused, IsLoadCut, IsAppendCut};
 
     ghost looks = { λ k. None };
@@ -100,9 +114,10 @@ impl Keeper for SqliteKeeper {
         ensures unchanged { OnErr result (into.new ≡ into.old) }
         ensures cause { IsCaused (fault_count self.old) (fault_count self.new) result }
         ensures turn { call_count self.new ≡ call_count self.old + 1 }
-        ensures looks { OnOk result (IsLoaded (storage_of self.old) (storage_of self.new) into.old into.new) }
-        ensures why { IfErr result (OnFault (IsLoadRefused (storage_of self.old) (storage_of self.new))) }
-        ensures memory { IfErr result (OnNoMemory (IsLoadCut (storage_of self.old) (storage_of self.new))) }
+        ensures all { OnOk result (LoadsAll (image_at S.Start) (storage_of self.old) (storage_of self.new) into.old into.new) }
+        ensures looks { OnOk result (IsLoaded (image_at S.Start) (storage_of self.old) (storage_of self.new) into.old into.new) }
+        ensures why { IfErr result (OnFault (IsLoadRefused (image_at S.Start) (storage_of self.old) (storage_of self.new))) }
+        ensures memory { IfErr result (OnNoMemory (IsLoadCut (image_at S.Start) (storage_of self.old) (storage_of self.new))) }
     {
         self.calls.rise();
         match self.storage.looks(alloc) {
@@ -117,9 +132,10 @@ impl Keeper for SqliteKeeper {
     fn append(&mut self, alloc: Global, look: &Look) -> Result<(), KeeperFault>
         ensures cause { IsCaused (fault_count self.old) (fault_count self.new) result }
         ensures turn { call_count self.new ≡ call_count self.old + 1 }
-        ensures look { OnOk result (IsAppended (storage_of self.old) (storage_of self.new) look.now) }
-        ensures why { IfErr result (OnFault (IsAppendRefused (storage_of self.old) (storage_of self.new) look.now)) }
-        ensures memory { IfErr result (OnNoMemory (IsAppendCut (storage_of self.old) (storage_of self.new) look.now)) }
+        ensures one { OnOk result (PutsOne (image_at S.Start) (storage_of self.old) (storage_of self.new) look.now) }
+        ensures look { OnOk result (IsAppended (image_at S.Start) (storage_of self.old) (storage_of self.new) look.now) }
+        ensures why { IfErr result (OnFault (IsAppendRefused (image_at S.Start) (storage_of self.old) (storage_of self.new) look.now)) }
+        ensures memory { IfErr result (OnNoMemory (IsAppendCut (image_at S.Start) (storage_of self.old) (storage_of self.new) look.now)) }
     {
         self.calls.rise();
         match self.storage.keep(alloc, look) {

@@ -15,7 +15,11 @@
 //! - Laws in `src/laws.rt`: rows and looks correspond one to one (`rows_and_looks_correspond`). Rows are read as looks in one
 //!   way, or have one first bad row, and not both (`rows_have_one_reading`).
 //!
-//! Proved of `SqliteKeeper`, a `Keeper` that doesn't expose its looks:
+//! Proved of `FileKeeper<S>`, a `Keeper` that doesn't expose its looks. Its clauses are for every first content `S` of the file and
+//! its log, as long as the disk returned what was written:
+//! - If the file held some looks, as `FileHolds` defines it, then `load` gives exactly these, and the file holds them still (`all`).
+//!   `append` leaves them and the new one (`one`). After `close` the two files hold them, as they read then and after a crash, also
+//!   the database file without its log (`left`). `FileHolds` is the premise of the next day's keeper, so days follow one another.
 //! - It counts its calls (`turn`). A fault comes only if its count of faults rose, and else that count stays. Each refusal by an
 //!   open file is reported as a fault, and out of memory as such (`counted`).
 //! - After a successful `load`, the looks of all rows that the file showed follow those in the list (`looks`). A refused load leaves
@@ -29,8 +33,10 @@
 //!   last commit is in the database file then, alone and also after a crash (`closed`). For a file that was never opened `close`
 //!   gives back neither.
 //!
-//! Only tested: that the file is the one at the path, that it isn't opened before the first call, and that nothing runs on it as it
-//! is opened. Also that its opening and its close are refused only if they have to be.
+//! A keeper can't be let go without its `close`, since its type has no `Drop`. An opening that was refused isn't tried again.
+//!
+//! Only tested: that the file is the one at the path, and that it isn't opened before the first call. Also that its opening and its
+//! close are refused only if they have to be, and what the file holds after a call that was cut off or refused.
 #![tactic(auto)]
 
 mod closed;
@@ -46,7 +52,8 @@ pub mod table;
 
 pub use closed::Closed;
 pub use fault::{FileFault, RowsFault};
-pub use keeper::SqliteKeeper;
+pub use keeper::{FileKeeper, SqliteKeeper};
 pub use row::{LookRow, from_row, to_row};
 pub use rows::read_rows;
+pub use sqlite::{Start, Unknown, Wary};
 pub use table::FileConnection;

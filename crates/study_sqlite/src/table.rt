@@ -3,6 +3,8 @@ ghost use Rattle.std.specs.Prelude.{[], ◌∷◌, Contains, IfOk, IfErr, OnOk, 
 ghost use Rattle.std.specs.List.{AllZip};
 ghost use Rattle.sqlite.specs.Files.{file_state, IsOpened};
 ghost use Rattle.sqlite.specs.Held.{state};
+ghost use Rattle.sqlite.specs.Start.{FindsIn};
+ghost use Rattle.sqlite.specs.WalFiles.{image_at};
 ghost use Rattle.sqlite.specs.State.{HasCleanDisk, Executes};
 ghost use Rattle.sqlite.specs.declared.types.Value.TheVariants.{Int, Text as SqlText};
 ghost use Rattle.study_sqlite.specs.FileFaults.{OnRefusal, OnMemory};
@@ -22,18 +24,48 @@ ghost use Rattle.study_sqlite.specs.Storing.{IsCopiedTo, IsCloseRefused};
 
 use crate::{FileFault, LookRow};
 use field_core::{List, Text};
-use sqlite::{Alter, Connection, Error, File, FileStore, Files, Row, params};
+use sqlite::{Alter, Connection, Error, FileFrom, FileStore, Files, Row, Start, params};
 use std::alloc::Global;
 use std::str;
 
-/// A connection to a file.
-pub type FileConnection = Connection<FileStore<File>>;
+/// A connection to a file that held what `S` names as it was opened.
+pub type FileConnection<S> = Connection<FileStore<FileFrom<S>>>;
 
-/// Opens a file, and makes it if it isn't there.
-pub fn open(rt: &HostRuntime, path: &str) -> Result<FileConnection, FileFault>
-    ensures opened { IfOk result (λ connection. HasCleanDisk (file_state connection) → IsOpened connection) }
-{
-    Ok(Connection::open(rt, path)?)
+/// The name of a file that isn't open yet.
+#[derive(Drop)]
+pub struct FileName<S: Start> {
+    rt: HostRuntime,
+    path: String,
+    start: S,
+}
+
+impl<S: Start> FileName<S> {
+    ghost use Rattle.std.specs.Prelude.{◌≡◌, string_bytes};
+    ghost use Rattle.study_sqlite.specs.Naming.{path_of};
+
+    /// Returns the name of the file at a path.
+    pub fn new(rt: &HostRuntime, path: String, start: S) -> FileName<S>
+        ensures { path_of result ≡ string_bytes path }
+    {
+        FileName {
+            rt: *rt,
+            path,
+            start,
+        }
+    }
+
+    /// Opens the file, and makes it if it isn't there.
+    pub fn open(self) -> Result<FileConnection<S>, FileFault>
+        ensures opened { IfOk result (λ connection. HasCleanDisk (file_state connection) → IsOpened connection) }
+        ensures found { IfOk result (λ connection. HasCleanDisk (file_state connection)
+            → FindsIn (image_at S.Start) (file_state connection)) }
+    {
+        let FileName { rt, path, start } = self;
+        match Connection::open_from(&rt, path.as_str(), false, start) {
+            Ok(connection) => Ok(connection),
+            Err((error, _)) => Err(FileFault::from(error)),
+        }
+    }
 }
 
 /// Makes the table if it isn't there. As long as the disk returned what was written, it is refused only if the statement gives
@@ -134,7 +166,7 @@ fn put_values<S: Alter>(
 
 /// Copies the log into the file, and gives both back; they are closed when they are dropped. The last commit is in the file
 /// then, as long as the disk returned what was written. It is refused only for an error of the connection's close.
-pub fn close(connection: FileConnection) -> Result<Files<File>, FileFault>
+pub fn close<S: Start>(connection: FileConnection<S>) -> Result<Files<FileFrom<S>>, FileFault>
     ensures copied { IfOk result (IsCopiedTo connection) }
     ensures why { IfErr result (OnRefusal (IsCloseRefused connection)) }
 {

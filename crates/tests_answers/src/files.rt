@@ -6,7 +6,8 @@ use std::alloc::{Alloc, Global};
 use std::fs;
 use std::process::Abort;
 use std::rt::Files;
-use study_sqlite::{SqliteKeeper, table};
+use study_sqlite::table::FileName;
+use study_sqlite::{FileConnection, FileKeeper, Unknown, table};
 
 const BEFORE: Given = (9, 9, (1, 50));
 
@@ -36,18 +37,22 @@ fn is_there(rt: &impl Files, path: &str) -> bool {
 }
 
 /// Returns a keeper over the file at a path, or nothing when out of memory.
-pub fn keeper_at(rt: &HostRuntime, path: &str) -> Option<SqliteKeeper> {
+pub fn keeper_at(rt: &HostRuntime, path: &str) -> Option<FileKeeper<Unknown>> {
     let path = String::from_str(rt.alloc(), path).ok()?;
-    Some(SqliteKeeper::at(rt, path))
+    Some(FileKeeper::at(rt, path, Unknown))
+}
+
+/// Opens the file at a path, unless that is refused.
+fn opened(rt: &HostRuntime, path: &str) -> Option<FileConnection<Unknown>> {
+    let path = String::from_str(rt.alloc(), path).ok()?;
+    FileName::new(rt, path, Unknown).open().ok()
 }
 
 /// Returns a keeper over a file that is opened and has the table, unless one of these is refused.
-fn keeper_over(rt: &HostRuntime, path: &str) -> Option<SqliteKeeper> {
-    let mut connection = table::open(rt, path).ok()?;
-    let made = table::make(&mut connection);
-    let keeper = SqliteKeeper::new(connection);
-    made.ok()?;
-    Some(keeper)
+fn keeper_over(rt: &HostRuntime, path: &str) -> Option<FileKeeper<Unknown>> {
+    let mut connection = opened(rt, path)?;
+    table::make(&mut connection).ok()?;
+    Some(FileKeeper::new(connection))
 }
 
 /// Puts looks into a keeper, up to the first that it refuses.
@@ -209,7 +214,7 @@ fn write_row(rt: &HostRuntime, path: &str, values: &str) -> Option<()> {
     let statement = format!(in rt.alloc();
         "INSERT INTO looks (hypothesis, stage, p) VALUES ({values})"
     ).ok()?;
-    let mut connection = table::open(rt, path).ok()?;
+    let mut connection = opened(rt, path)?;
     let made = table::make(&mut connection);
     let written = connection.execute(&statement, &[]);
     table::close(connection).ok()?;

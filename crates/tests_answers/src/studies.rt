@@ -39,8 +39,8 @@ fn run_over(rt: &HostRuntime, path: &str, commands: &[u8]) -> Option<(u8, Vec<u8
     let words = words(alloc)?;
     let mut case = source(alloc, CASE)?;
     let mut commands = source(alloc, commands)?;
-    let mut keeper = keeper_at(rt, path)?;
     let mut out = MemorySink::with_room(alloc, 4096).ok()?;
+    let mut keeper = keeper_at(rt, path)?;
     let words = words.as_slice();
     let status = run_study(
         alloc,

@@ -27,3 +27,5 @@ mod simes;
 mod studies;
 #[cfg(test)]
 mod trials;
+#[cfg(test)]
+mod updates;

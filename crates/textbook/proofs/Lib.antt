@@ -13,13 +13,4 @@ pub mod GateShares
 pub mod GateLeft
 pub mod GateOrders
 pub mod GateRuns
-pub mod OnlySolutions
-pub mod SmallNumbers
-pub mod PairWeights
-pub mod HolmWeights
-pub mod GateWeights
-pub mod ValidExamples
-pub mod ExampleTests
-pub mod ExampleOrders
-pub mod AdjustedExamples
-pub mod BoundExamples
+pub mod ExampleWeights

@@ -3,5 +3,3 @@ pub mod TextbookRuns
 pub mod TextbookStatements
 pub mod Gatekeeping
 pub mod Examples
-pub mod ExampleStatements
-pub mod ClosedTestExamples

@@ -3,3 +3,4 @@ pub mod Ended
 pub mod Parts
 pub mod Replies
 pub mod TopCall
+pub mod UpdateReplies

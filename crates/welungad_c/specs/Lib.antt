@@ -2,6 +2,7 @@ pub mod Calls
 pub mod Delivery
 pub mod Readings
 pub mod RowCalls
+pub mod UpdateCalls
 pub mod Words
 pub use Rattle.answers.specs.Lines
 pub use Rattle.answers.specs.Codes

@@ -2,6 +2,7 @@
 //! - `welungad_run` takes words, a case and a proof, and gives a text and a status.
 //! - `welungad_read` reads doubles as fractions.
 //! - `welungad_test_rows` decides a case with many rows of p-values.
+//! - `welungad_update` returns the graph of a case after removals.
 //! - `welungad_interface` returns the number of this interface.
 //!
 //! Proved:
@@ -15,6 +16,10 @@
 //! - `welungad_test_rows`: each row is tested (`AreRowsTested` of `trial_rows`) on the case that the text denotes. This requires
 //!   that the case has no stages, that the lengths fit it, and that its opening is defined. If not, or if out of memory, nothing
 //!   is written, and the status gives the reason. A refused text has the status that the program gives it.
+//! - `welungad_update`: if the text denotes a case and the positions are those of hypotheses, each once, the text of the graph
+//!   after these removals (`IsUpdate` of `graph_update`) is delivered. If an operation is undefined, the line that names the
+//!   first one is delivered. A refused text has the line and the status that the program gives it. Other positions have status
+//!   11 and no text.
 //! - `welungad_interface`.
 //!
 //! Not proved, as at any export: that the caller's C code keeps what `c/welungad.h` requires.
@@ -25,6 +30,7 @@ ghost use Rattle.welungad_c.specs.Words.{AreWords};
 ghost use Rattle.welungad_c.specs.Calls.{Answers, HasNoWords};
 ghost use Rattle.welungad_c.specs.Readings.{Reads};
 ghost use Rattle.welungad_c.specs.RowCalls.{TestsRows};
+ghost use Rattle.welungad_c.specs.UpdateCalls.{Updates};
 
 mod delivery;
 mod readings;
@@ -32,6 +38,7 @@ mod reply;
 mod rows;
 #[cfg(test)]
 mod tests;
+mod update;
 mod words;
 
 use delivery::deliver;
@@ -40,6 +47,7 @@ use readings::write_readings;
 use reply::Reply;
 use rows::test_text;
 use std::alloc::Global;
+use update::update_reply;
 use words::{NoWords, words_of};
 
 /// Returns the number of this interface. It changes when a parameter, a status or the meaning of a call changes.
@@ -131,4 +139,34 @@ pub extern "C" fn welungad_test_rows(
     ensures { TestsRows case.now doubles.now rejected.old rejected.new statuses.old statuses.new result }
 {
     test_text(alloc, case, doubles, rejected, statuses)
+}
+
+/// Puts the text of the graph of a case after the removals of hypotheses, one after another.
+///
+/// - `case` is the text of a case. Its p-values or stages, if it has some, are read as every command reads them and are not used.
+/// - `removed` has the positions of the hypotheses from 0 on, in the order of their removal, each once.
+/// - As much of the text as fits goes to the front of `out`, and the rest of `out` stays. `needed` becomes the length of the
+///   whole text. `graph_update::update` has its lines.
+///
+/// Statuses:
+/// - 0: the text is that of the graph
+/// - 3, 4, 5: the text of the case is refused, and the line of the refusal is put
+/// - 5: also if an operation is undefined; a line names the first one, in the opening (step 0) or in a removal (from step 1 on)
+/// - 7: the text doesn't fit into `out`
+/// - 8: out of memory
+/// - 11: a position is not that of a hypothesis, or is there twice; then `out` stays, and `needed` becomes 0
+#[unsafe(no_mangle)]
+pub extern "C" fn welungad_update(
+    alloc: Global,
+    case: &[u8],
+    removed: &[usize],
+    out: &mut [u8],
+    needed: &mut usize,
+) -> u8
+    ensures { Updates case.now removed.now out.old out.new needed.new result }
+{
+    match update_reply(alloc, case, removed) {
+        Ok(reply) => deliver(reply.text.as_slice(), reply.status, out, needed),
+        Err(NoMemory) => deliver(b"no memory\n", 8, out, needed),
+    }
 }

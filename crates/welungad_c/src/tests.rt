@@ -1,5 +1,5 @@
 //! Calls with ample memory.
-use crate::{welungad_interface, welungad_read, welungad_run, welungad_test_rows};
+use crate::{welungad_interface, welungad_read, welungad_run, welungad_test_rows, welungad_update};
 use std::alloc::Global;
 use std::process::Abort;
 use std::test::Fail;
@@ -112,4 +112,57 @@ fn decides_rows(rt: HostRuntime) -> Result<(), Fail> {
     assert!(rt; marks == [1, 1, 0, 1, 0, 0]);
     assert!(rt; statuses == [0, 0, 3]);
     Ok(())
+}
+
+/// The terms of the edge have a common denominator near 10^54, so it is too wide before any removal.
+const WIDE: &[u8] =
+    b"alpha 0.05\nhypotheses A B\nweights 1 0\nedge A B 1/1000000000000000000+1/999999999999999999*\\epsilon+1/999999999999999997*\\epsilon^2\n";
+
+/// Tests the update of a case into `room` bytes: its status, the length of the whole text, and the bytes that are put; those after
+/// them stay.
+fn expect_update(
+    rt: &impl Abort,
+    alloc: Global,
+    case: &[u8],
+    removed: &[usize],
+    room: usize,
+    (status, length, put): (u8, usize, &[u8]),
+) -> Result<(), Fail> {
+    let mut out = Vec::from_elem(alloc, b'.', room)?;
+    let mut needed = 999;
+    assert!(rt; welungad_update(alloc, case, removed, out.as_mut_slice(), &mut needed) == status);
+    assert!(rt; needed == length);
+    match out.as_slice().strip_prefix(put) {
+        Some(rest) => assert!(rt; rest.iter().all(|byte| *byte == b'.')),
+        None => panic!(rt; "another text"),
+    }
+    Ok(())
+}
+
+/// Whether the graph after a removal is put, and one that doesn't fit is reported. A refused case and an undefined operation are
+/// reported with their lines, and other positions put nothing.
+#[test]
+fn updates_a_case(rt: HostRuntime) -> Result<(), Fail> {
+    let alloc = rt.alloc();
+    let whole = b"component 1\nweight H2 1\nlevel H2 1\nend\n";
+    expect_update(&rt, alloc, CASE, &[0], 99, (0, whole.len(), whole))?;
+    expect_update(&rt, alloc, CASE, &[0], 9, (7, whole.len(), b"component"))?;
+    expect_update(&rt, alloc, CASE, &[2], 99, (11, 0, b""))?;
+    expect_update(&rt, alloc, CASE, &[1, 1], 99, (11, 0, b""))?;
+    expect_update(
+        &rt,
+        alloc,
+        b"",
+        &[],
+        99,
+        (3, 25, b"malformed: line 1: ended\n"),
+    )?;
+    expect_update(
+        &rt,
+        alloc,
+        WIDE,
+        &[],
+        99,
+        (5, 43, b"too wide: step 0: component 1 edge A B add\n"),
+    )
 }

@@ -1,5 +1,6 @@
 //! The words after the program's name.
 use std::alloc::AllocError;
+use std::io::ErrorKind;
 use std::{env, io};
 
 /// Why the words after the program's name couldn't be read.
@@ -26,15 +27,27 @@ impl NoWords {
 }
 
 impl From<io::Error> for NoWords {
-    fn from(error: io::Error) -> NoWords {
+    ghost use Rattle.std.specs.Prelude.{◌≡◌, ◌≢◌};
+    ghost use Rattle.std.specs.IoError.{error_kind};
+    ghost use Rattle.welungad_main.specs.declared.words.NoWords.TheVariants.{NoMemory, Unreadable};
+
+    fn from(error: io::Error) -> NoWords
+        ensures memory { error_kind error ≡ ErrorKind.OutOfMemory → result ≡ NoMemory }
+        ensures other { error_kind error ≢ ErrorKind.OutOfMemory → result ≡ Unreadable }
+    {
         match error.kind() {
-            io::ErrorKind::OutOfMemory => NoWords::NoMemory,
+            ErrorKind::OutOfMemory => NoWords::NoMemory,
             _ => NoWords::Unreadable,
         }
     }
 }
 
 impl From<AllocError> for NoWords {
+    ghost use Rattle.std.specs.Prelude.{◌≡◌};
+    ghost use Rattle.welungad_main.specs.declared.words.NoWords.TheVariants.{NoMemory};
+
+    ghost from_gives = { λ _ none. none ≡ NoMemory };
+
     fn from(_: AllocError) -> NoWords {
         NoWords::NoMemory
     }

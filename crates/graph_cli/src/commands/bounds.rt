@@ -6,7 +6,7 @@ ghost use Rattle.graph_cli.specs.Accepted.{IsOfKind};
 ghost use Rattle.graph_cli.specs.declared.kind.InputKind.TheVariants.{Single};
 ghost use Rattle.graph_cli.specs.Troubles.{Meets};
 
-use crate::trouble::Trouble;
+use crate::no_answer::NoAnswer;
 use answers::Answer;
 use case_model::Case;
 use closed_test::ClosedTable;
@@ -16,7 +16,7 @@ use std::alloc::Global;
 
 /// Returns the answer of `bounds` for a case.
 #[tactic(auto, unfolding(crate::specs::Bounds::bounds_stage))]
-pub fn bounds_answer(alloc: Global, case: &Case) -> Result<Answer, Trouble>
+pub fn bounds_answer(alloc: Global, case: &Case) -> Result<Answer, NoAnswer>
     requires single { IsOfKind Single (content case.now).inputs }
     requires few { length (content case.now).names ≤ 16 }
     ensures { Meets (bounds_stage (content case.now)) result }

@@ -1,6 +1,6 @@
 //! Refusals of sizes and seeds from which no case is made.
 ghost use Rattle.std.specs.Prelude.{IfOk};
-ghost use Rattle.graph_cli.specs.Catalogue.{IsToldAs};
+ghost use Rattle.graph_cli.specs.Catalogue.{ReportsFault};
 
 use answers::Refusal;
 use catalogue::{CatalogueFault, names};
@@ -11,8 +11,12 @@ use std::alloc::Global;
 /// Returns the refusal that reports why no case of `size` hypotheses was made.
 ///
 /// `NoMemory` if the fault is that, or if out of memory.
-pub fn fault_refusal(alloc: Global, size: u64, fault: &CatalogueFault) -> Result<Refusal, NoMemory>
-    ensures { IfOk result (IsToldAs size fault.now) }
+pub fn catalogue_refusal(
+    alloc: Global,
+    size: u64,
+    fault: &CatalogueFault,
+) -> Result<Refusal, NoMemory>
+    ensures { IfOk result (ReportsFault size fault.now) }
 {
     match fault {
         CatalogueFault::Size(n) => size_refusal(alloc, *n),

@@ -1,5 +1,5 @@
 //! The command `check`.
-ghost use Rattle.std.specs.Prelude.{◌≡◌, IfOk};
+ghost use Rattle.std.specs.Prelude.{◌≡◌, MatchResult, IfOk};
 ghost use Rattle.case_model.specs.CaseView.{content};
 ghost use Rattle.evidence_check.specs.EvidenceView.{IsEvidenceFor};
 ghost use Rattle.graph_cli.specs.Accepted.{IsOfKind};
@@ -7,6 +7,7 @@ ghost use Rattle.graph_cli.specs.Check.{said_of, checked, answer_to, check_stage
 ghost use Rattle.graph_cli.specs.Troubles.{Meets};
 ghost use Rattle.graph_cli.specs.declared.kind.InputKind.TheVariants.{Single};
 
+use crate::no_answer::NoAnswer;
 use crate::trouble::Trouble;
 use answers::{Answer, Status};
 use case_model::Case;
@@ -17,10 +18,11 @@ use report::check_text;
 use std::alloc::Global;
 
 /// Returns the verdict of the check on evidence.
-pub fn checked(case: &Case, proof: &Evidence) -> Result<Verdict, Trouble>
+pub fn check_evidence(case: &Case, proof: &Evidence) -> Result<Verdict, Trouble>
     requires single { IsOfKind Single (content case.now).inputs }
     requires fits { IsEvidenceFor (content case.now) proof.now }
-    ensures { Meets (checked (content case.now) (said_of proof.now)) result }
+    ensures { MatchResult result (checked (content case.now) (said_of proof.now)).Gives
+        (checked (content case.now) (said_of proof.now)).Refuses }
 {
     match check(case, proof) {
         Ok(verdict) => Ok(verdict),
@@ -52,11 +54,11 @@ fn answer_to(
 
 /// Returns the answer of `check` for a case and the text of evidence.
 #[tactic(auto, unfolding(crate::specs::Check::check_stage))]
-pub fn check_answer(alloc: Global, case: &Case, bytes: &[u8]) -> Result<Answer, Trouble>
+pub fn check_answer(alloc: Global, case: &Case, bytes: &[u8]) -> Result<Answer, NoAnswer>
     requires { IsOfKind Single (content case.now).inputs }
     ensures { Meets (check_stage (content case.now) bytes.now) result }
 {
     let proof = read(alloc, case, bytes)?;
-    let verdict = checked(case, &proof)?;
+    let verdict = check_evidence(case, &proof)?;
     Ok(answer_to(alloc, case, &proof, verdict)?)
 }

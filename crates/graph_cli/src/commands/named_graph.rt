@@ -5,7 +5,7 @@ ghost use Rattle.case_model.specs.CaseView.{content};
 ghost use Rattle.catalogue.specs.declared.fault.CatalogueFault.TheVariants.{NoMemory as OutOfMemory};
 ghost use Rattle.graph_cli.specs.Graphs.{named_case, reported_size, catalogue_stage};
 
-use crate::commands::catalogue_faults::fault_refusal;
+use crate::commands::catalogue_faults::catalogue_refusal;
 use answers::{Answer, Stop};
 use case_model::Case;
 use catalogue::{
@@ -48,6 +48,6 @@ pub fn catalogue_answer(alloc: Global, graph: SizedGraph) -> Result<Answer, Stop
 {
     match named_case(alloc, graph) {
         Ok(case) => Ok(Answer::done(write_text(alloc, &case)?)),
-        Err(fault) => Err(Stop::Refused(fault_refusal(alloc, reported_size(graph), &fault)?)),
+        Err(fault) => Err(Stop::Refused(catalogue_refusal(alloc, reported_size(graph), &fault)?)),
     }
 }

@@ -6,7 +6,7 @@ ghost use Rattle.graph_cli.specs.declared.kind.InputKind.TheVariants.{Single};
 ghost use Rattle.graph_cli.specs.Simes.{simes_stage};
 ghost use Rattle.graph_cli.specs.Troubles.{Meets};
 
-use crate::trouble::Trouble;
+use crate::no_answer::NoAnswer;
 use answers::Answer;
 use case_model::Case;
 use closed_test::WeightTable;
@@ -17,7 +17,7 @@ use std::alloc::Global;
 
 /// Returns the answer of `simes` for a case: the weights of all sets come first, then their sums.
 #[tactic(auto, unfolding(crate::specs::Simes::simes_stage))]
-pub fn simes_answer(alloc: Global, case: &Case) -> Result<Answer, Trouble>
+pub fn simes_answer(alloc: Global, case: &Case) -> Result<Answer, NoAnswer>
     requires single { IsOfKind Single (content case.now).inputs }
     requires few { length (content case.now).names ≤ 16 }
     ensures { Meets (simes_stage (content case.now)) result }

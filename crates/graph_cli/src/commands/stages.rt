@@ -5,7 +5,7 @@ ghost use Rattle.graph_cli.specs.Stages.{stages_stage};
 ghost use Rattle.graph_cli.specs.Troubles.{Meets};
 ghost use Rattle.graph_cli.specs.declared.kind.InputKind.TheVariants.{Staged};
 
-use crate::trouble::Trouble;
+use crate::no_answer::NoAnswer;
 use answers::Answer;
 use case_model::Case;
 use report::stages_text;
@@ -14,7 +14,7 @@ use std::alloc::Global;
 
 /// Returns the answer of `stages` for a case.
 #[tactic(auto, unfolding(crate::specs::Stages::stages_stage))]
-pub fn stages_answer(alloc: Global, case: &Case) -> Result<Answer, Trouble>
+pub fn stages_answer(alloc: Global, case: &Case) -> Result<Answer, NoAnswer>
     requires { IsOfKind Staged (content case.now).inputs }
     ensures { Meets (stages_stage (content case.now)) result }
 {

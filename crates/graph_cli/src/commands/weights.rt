@@ -4,7 +4,7 @@ ghost use Rattle.case_model.specs.CaseView.{content};
 ghost use Rattle.graph_cli.specs.Troubles.{Meets};
 ghost use Rattle.graph_cli.specs.Weights.{weights_stage};
 
-use crate::trouble::Trouble;
+use crate::no_answer::NoAnswer;
 use answers::Answer;
 use case_model::Case;
 use closed_test::WeightTable;
@@ -13,7 +13,7 @@ use std::alloc::Global;
 
 /// Returns the answer of `weights` for a case.
 #[tactic(auto, unfolding(crate::specs::Weights::weights_stage))]
-pub fn weights_answer(alloc: Global, case: &Case) -> Result<Answer, Trouble>
+pub fn weights_answer(alloc: Global, case: &Case) -> Result<Answer, NoAnswer>
     requires { length (content case.now).names ≤ 16 }
     ensures { Meets (weights_stage (content case.now)) result }
 {

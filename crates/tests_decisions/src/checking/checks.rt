@@ -6,12 +6,17 @@ use crate::checking::documents::{
     CHECKED, LONG, LONG_EVIDENCE, LONG_IS_WIDE, REFUSED, REPEATED_STEP,
 };
 use eps_quotient::EpsQuotient;
-use evidence_check::{CheckWide, Evidence, ProofKind, ProofText, Verdict, check, fits, read};
-use field_core::Number;
+use evidence_check::{
+    CheckWide, Evidence, KeepProof, ProofKind, ProofStep, ProofText, Reason, Verdict, check,
+    is_of_case, read,
+};
+use field_core::{List, Number};
 use fraction::Fraction;
 use sequential::is_single;
 use std::alloc::Global;
 use std::process::Abort;
+
+const FIRST_STEP: &[u8] = b"evidence 1\nstep H1\nend";
 
 /// Returns the answer of the checker to a document, if the document can be read.
 fn checked(
@@ -25,7 +30,7 @@ fn checked(
         return None;
     };
     assert!(rt; is_single(&case));
-    assert!(rt; fits(&case, &proof));
+    assert!(rt; is_of_case(&case, &proof));
     Some(check(&case, &proof))
 }
 
@@ -111,19 +116,66 @@ fn documents_say_exits(rt: HostRuntime) {
     assert!(&rt; third.as_slice() == [Fraction::zero()].as_slice());
 }
 
-/// Whether evidence fits its case, but no case of another form, and doesn't fit if keeps of version 2 are missing.
+/// Whether evidence is of its case, but of no case of another form or with fewer hypotheses.
 #[test]
-fn evidence_fits_its_case(rt: HostRuntime) {
+fn evidence_is_of_its_case(rt: HostRuntime) {
     let fixed = case_of(&rt, rt.alloc(), FIXED);
     let Ok(proof) = read(rt.alloc(), &fixed, FIXED_EVIDENCE.as_bytes()) else {
         panic!(&rt; "no evidence");
     };
-    assert!(&rt; fits(&fixed, &proof));
-    assert!(&rt; !fits(&case_of(&rt, rt.alloc(), GATEKEEPING), &proof));
-    let Ok(Evidence::Plain(mut proof)) = read(rt.alloc(), &fixed, b"evidence 1\nstep H1\nend")
-    else {
-        panic!(&rt; "no evidence of version 1");
+    assert!(&rt; is_of_case(&fixed, &proof));
+    assert!(&rt; !is_of_case(&case_of(&rt, rt.alloc(), GATEKEEPING), &proof));
+    let one = "alpha 0.05\nhypotheses H1\np 0.5\nweights 1\n";
+    assert!(&rt; !is_of_case(&case_of(&rt, rt.alloc(), one), &proof));
+}
+
+/// Returns the answer of the checker to a step of H1 and a keep of a hypothesis without an exit.
+fn kept_without_exit(
+    rt: &impl Abort,
+    alloc: Global,
+    hypothesis: usize,
+) -> Result<Verdict, CheckWide> {
+    let case = case_of(rt, alloc, FIXED);
+    let Ok(Evidence::Plain(mut proof)) = read(alloc, &case, FIRST_STEP) else {
+        panic!(rt; "no evidence in fractions");
     };
-    proof.version = 2;
-    assert!(&rt; !fits(&fixed, &Evidence::Plain(proof)));
+    let exits = List::new(alloc);
+    let Ok(()) = proof.keeps.push(KeepProof { hypothesis, exits }) else {
+        panic!(rt; "no memory");
+    };
+    let proof = Evidence::Plain(proof);
+    assert!(rt; is_single(&case));
+    assert!(rt; is_of_case(&case, &proof));
+    check(&case, &proof)
+}
+
+/// Returns the answer of the checker to a step of H1 and a step of H3 without a flow.
+fn listed_without_flow(rt: &impl Abort, alloc: Global) -> Result<Verdict, CheckWide> {
+    let case = case_of(rt, alloc, GATEKEEPING);
+    let Ok(Evidence::Eps(mut proof)) = read(alloc, &case, FIRST_STEP) else {
+        panic!(rt; "no evidence in quotients");
+    };
+    let flows = List::new(alloc);
+    let third = ProofStep {
+        hypothesis: 2,
+        flows,
+    };
+    let Ok(()) = proof.steps.push(third) else {
+        panic!(rt; "no memory");
+    };
+    let proof = Evidence::Eps(proof);
+    assert!(rt; is_single(&case));
+    assert!(rt; is_of_case(&case, &proof));
+    check(&case, &proof)
+}
+
+/// Whether a flow or an exit past the end of its list counts as 0. H1 passes all to H2 and nothing to H3, so that 0 is an exit of
+/// H3 and is too little for H2. In the other case H3 has no level without the flow.
+#[test]
+fn missing_numbers_are_zero(rt: HostRuntime) {
+    assert!(&rt; kept_without_exit(&rt, rt.alloc(), 2) == Ok(Verdict::Yes));
+    let second = kept_without_exit(&rt, rt.alloc(), 1);
+    assert!(&rt; second == Ok(Verdict::No(2, Reason::ShortExit(0, 0))));
+    let third = listed_without_flow(&rt, rt.alloc());
+    assert!(&rt; third == Ok(Verdict::No(2, Reason::NoLevel)));
 }

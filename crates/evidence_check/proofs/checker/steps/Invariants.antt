@@ -6,4 +6,4 @@ use Rattle.evidence_check.proofs.checker.steps.Given as goal
 
 abbrev pub invariant-loop-s : goal.invariant-loop-s
 invariant-loop-s g l = Checked g.F.Number.parts g.F.Number.kind (loaded_case g.F.Number.kind g.F.CaseNumber.numbers (content l.case))
-    (length (content l.case).names) (length (content l.case).components) l.steps l.s
+    (length (content l.case).names) l.steps l.s

@@ -7,7 +7,7 @@ use Rattle.evidence_check.specs.EvidenceView.{hypotheses_of, keep_parts}
 use Rattle.evidence_check.specs.NumberReading.{case_frame}
 use Rattle.evidence_check.proofs.ReadAnswers.{handed, reads, next_fails, next_reads, none_left}
 use Rattle.std.proofs.Common.{◌-◌}
-use Rattle.evidence_check.proofs.FitAnswers.{others_from, listed_in, listed_out}
+use Rattle.evidence_check.proofs.Others.{others_from, listed_in, listed_out}
 use Rattle.std.proofs.Common.{ap₂}
 use Rattle.evidence_check.proofs.StepAnswers.{listed_is}
 use Rattle.evidence_check.proofs.ReadAnswers.{others_start, none_more}

@@ -7,7 +7,7 @@ use Rattle.evidence_check.specs.EvidenceView.{hypotheses_of, keep_parts}
 use Rattle.evidence_check.specs.NumberReading.{case_frame}
 use Rattle.evidence_check.proofs.ReadAnswers.{reads}
 use Rattle.std.proofs.Common.{◌-◌}
-use Rattle.evidence_check.proofs.FitAnswers.{others_from}
+use Rattle.evidence_check.proofs.Others.{others_from}
 use Rattle.evidence_check.proofs.document.keeps.Given as goal
 
 abbrev pub invariant-loop-k : goal.invariant-loop-k

@@ -4,4 +4,4 @@ use Rattle.evidence_check.proofs.ExitAnswers.{exits_are}
 use Rattle.evidence_check.proofs.exits.exits.Goals as goal
 
 pub returns : goal.returns
-returns g c = exits_are _ _ _ _ _ _ _ _ _ (as_many c.args.steps.now) c.in_component-exits.ensures.numbers (c.all_below.ensures _ (λ r v b p. search rules))
+returns g c = exits_are _ _ _ _ _ _ _ _ _ (as_many c.args.steps.now) c.in_component-exits.ensures (c.all_below.ensures _ (λ r v b p. search rules))

@@ -1,4 +1,4 @@
-use Rattle.std.proofs.Common.{inl, inr, refl, ◌∙◌, ap}
+use Rattle.std.proofs.Common.{inl, inr, ◌∙◌, ap}
 use Rattle.case_csv.specs.Reading.{IsCsvFault}
 use Rattle.refusals.specs.CaseRefusal.{case_refusal}
 use Rattle.graph_cli.proofs.accepted.csv_case.Goals as goal
@@ -6,7 +6,7 @@ use Rattle.graph_cli.proofs.accepted.csv_case.Goals as goal
 pub returns-in-Ok : goal.returns-in-Ok
 returns-in-Ok c =
     let h = c.in-Ok.ensures.case in
-    (h.draft, (c.args.alpha, refl, h.says), (h.faultless, h.content_is))
+    (h.draft, h.says, (h.faultless, h.content_is))
 
 pub returns-in_ok-cell_refusal-in-Err-Row : goal.returns-in_ok-cell_refusal-in-Err-Row
 unfolding IsCsvFault
@@ -26,7 +26,7 @@ returns-in_ok-case_refusal-in-Err-Case c =
     let h = rw c.in-Err-Case.field-0-is at c.in-Err-Case.ensures.fault in
     inr (
       h.draft,
-      (c.args.alpha, refl, h.says),
+      h.says,
       (
         refused.fault,
         h.fault_is,

@@ -5,7 +5,7 @@ use Rattle.graph_cli.specs.declared.trouble.Trouble.TheVariants.{Closure}
 use Rattle.graph_cli.proofs.accepted.suitable.Goals as goal
 
 pub returns-then-size-needs : goal.returns-then-size-needs
-returns-then-size-needs c = λ some.
+returns-then-size-needs c =
     let kind : IsTrue c.is_of.result = search (rules, tests) in
     let count = c.size.ensures.count in
     inr (content c.args.case.now, (c.is_of.ensures.0 kind, refl), (omega arith, ap Closure c.size-then-size-needs.ensures.count))

@@ -3,7 +3,7 @@ use Rattle.answers.specs.declared.refusal.Refusal.{Refusal}
 use Rattle.answers.proofs.Stopping.{source_stops, value_ends, handed_on}
 use Rattle.case_model.specs.CaseView.{content}
 use Rattle.graph_cli.specs.Commands.{case_call}
-use Rattle.graph_cli.proofs.HandedOn.{told_ends}
+use Rattle.graph_cli.proofs.HandedOn.{reported_ends}
 use Rattle.graph_cli.proofs.commands.case_call.Goals as goal
 
 pub returns-in_err-case-clause-ends : goal.returns-in_err-case-clause-ends
@@ -19,4 +19,4 @@ returns-clause-ends g c =
     let clean = c.in_ok-case.ensures.ends.1 in
     value_ends _ _ c.ending_of.result (λ x h. ((content c.in_ok-case.case, taken, h), clean))
     (λ (r : Refusal) h. (inr (content c.in_ok-case.case, taken, h), clean)) clean
-    (told_ends _ _ c.case_answer.result c.ending_of.result c.case_answer.ensures c.ending_of.ensures)
+    (reported_ends _ _ c.case_answer.result c.ending_of.result c.case_answer.ensures c.ending_of.ensures)

@@ -6,7 +6,7 @@ use Rattle.case_model.specs.Content.{Content}
 use Rattle.command_words.specs.Asked.{encoding}
 use Rattle.graph_cli.specs.Accepted.{accepted}
 use Rattle.graph_cli.specs.Commands.{check_call}
-use Rattle.graph_cli.proofs.HandedOn.{told_ends}
+use Rattle.graph_cli.proofs.HandedOn.{reported_ends}
 use Rattle.graph_cli.proofs.commands.check_call.Goals as goal
 
 pub returns-in_err-accepted-clause-ends : goal.returns-in_err-accepted-clause-ends
@@ -34,7 +34,7 @@ returns-clause-ends g c =
     let clean = c.in_ok-accepted.ensures.ends.1 in
     value_ends _ _ c.ending_of.result (λ x h. ((case, taken, (c.in_ok-bytes.bytes, bytes.0, h)), (clean, bytes.1)))
     (λ (r : Refusal) h. (inr (case, taken, inr (c.in_ok-bytes.bytes, bytes.0, h)), (clean, bytes.1))) (clean, bytes.1)
-    (told_ends _ _ c.check_answer-answer.result c.ending_of.result (rw c.as_slice.ensures at c.check_answer-answer.ensures) c.ending_of.ensures)
+    (reported_ends _ _ c.check_answer-answer.result c.ending_of.result (rw c.as_slice.ensures at c.check_answer-answer.ensures) c.ending_of.ensures)
 
 pub returns-in_err-bytes-clause-proof_kept : goal.returns-in_err-bytes-clause-proof_kept
 returns-in_err-bytes-clause-proof_kept g c =

@@ -1,8 +1,9 @@
-use Rattle.std.proofs.Common.{[], ◌∷◌, ◌++◌, subst}
+use Rattle.std.proofs.Common.{◌≡◌, [], ◌∷◌, ◌++◌, ◌+◌, length, sym, ap, ◌∙◌, subst}
 use Rattle.sequential.specs.DecisionRuns.{IsStep}
 use Rattle.sequential.specs.TrialView.{trial}
 use Rattle.sequential.proofs.Decided.{run_decides, never_wide}
-use Rattle.sequential.proofs.RunSteps.{run_start, run_step, run_end, step_smaller}
+use Rattle.sequential.specs.WideDecisions.{IsWideDecision}
+use Rattle.sequential.proofs.RunSteps.{run_start, run_step, run_end, run_fault, step_smaller, many}
 use Rattle.sequential.proofs.decision.reject_all.Goals as goal
 
 pub loop-wide-init : goal.loop-wide-init
@@ -41,3 +42,10 @@ returns-in-Ok-None-clause-defined c = λ k T.
     let run = c.loop-wide.invariant k T in
     never_wide k c.args.priority run.0 new
     (run_end k c.args.priority run.0 old new run.1 (subst (IsStep c.args.priority old new) c.in-Ok-None.field-0-is c.in-Ok-None.ensures.step))
+
+pub returns-in-Err-clause-wide : goal.returns-in-Err-clause-wide
+returns-in-Err-clause-wide c = λ k T.
+    let run = c.loop-wide.invariant k T in
+    let as_many : length run.0 ≡ length c.rejected.result.now = sym (many run.0) ∙ ap length (run.1.listed ∙ sym c.rejected.ensures.value) in
+    subst (λ n. IsWideDecision k c.args.priority (n + 1) c.in-Err.wide) as_many
+    (run_fault k c.args.priority run.0 (trial c.loop-wide.current) c.in-Err.wide run.1 c.in-Err.ensures.wide)

@@ -23,11 +23,11 @@ returns-in_err-text-clause-ends g c =
     handed_on _ _ _ c.from_residual-in_err-text.ensures.1
     (none_kept (content c.args.case.now) c.args.commands.now (g.K.Keeper.looks c.args.keeper.now) _ r.ensures.kept, tt, r.ensures.ends.1)
 
-pub returns-in_err-ended-in-Ok-clause-ends : goal.returns-in_err-ended-in-Ok-clause-ends
-returns-in_err-ended-in-Ok-clause-ends g c =
+pub returns-in_err-done_answer-in-Ok-clause-ends : goal.returns-in_err-done_answer-in-Ok-clause-ends
+returns-in_err-done_answer-in-Ok-clause-ends g c =
     let kept = g.K.Keeper.looks c.args.keeper.now in
     let r = c.in_ok-register in
-    handed_on _ _ _ c.from_residual-in_err-ended-in-Ok.ensures.1 (
+    handed_on _ _ _ c.from_residual-in_err-done_answer-in-Ok.ensures.1 (
       replied_kept (content c.args.case.now) c.args.commands.now kept _ _ r.ensures.kept (looks_in r.register) r.ensures.ends.0.taken _ _ _
           r.ensures.loaded _ _ _
           c.in-Ok.ensures.replied,
@@ -41,17 +41,17 @@ returns-in-Ok-clause-ends g c =
     let r = c.in_ok-register in (
       all_answered (content c.args.case.now) c.args.commands.now kept _ _ r.ensures.kept
           (looks_in r.register) r.ensures.ends.0.taken _ _ _ r.ensures.loaded c.count.result c.in_ok-text.text _ _ _
-          c.count.ensures c.in_ok-text.ensures c.in-Ok.ensures.replied c.in_ok-ended-in-Ok.ensures,
+          c.count.ensures c.in_ok-text.ensures c.in-Ok.ensures.replied c.in_ok-done_answer-in-Ok.ensures,
       tt,
       c.in-Ok.ensures.counted (λ f. cc) ∙ r.ensures.ends.1,
     )
 
-pub returns-in_err-broken_off-in-Err-Wide-clause-ends : goal.returns-in_err-broken_off-in-Err-Wide-clause-ends
-returns-in_err-broken_off-in-Err-Wide-clause-ends g c =
+pub returns-in_err-stopped_answer-in-Err-Wide-clause-ends : goal.returns-in_err-stopped_answer-in-Err-Wide-clause-ends
+returns-in_err-stopped_answer-in-Err-Wide-clause-ends g c =
     let kept = g.K.Keeper.looks c.args.keeper.now in
     let r = c.in_ok-register in
     let e = c.in-Err-Wide in
-    handed_on _ _ _ c.from_residual-in_err-broken_off-in-Err-Wide.ensures.1 (
+    handed_on _ _ _ c.from_residual-in_err-stopped_answer-in-Err-Wide.ensures.1 (
       stopped_kept (content c.args.case.now) c.args.commands.now kept _ _ r.ensures.kept (looks_in r.register) r.ensures.ends.0.taken _ _ _
           r.ensures.loaded _ e.field-0
           e.ensures.stopped,
@@ -69,7 +69,7 @@ returns-in-Err-Wide-clause-ends g c =
     let s = looks_in r.register in (
       break_answered k commands kept _ _ r.ensures.kept s r.ensures.ends.0.taken _ _ _ r.ensures.loaded e.place e.wide _
           (first_broken k s commands _ _ _ _ _ e.field-0 e.place e.wide e.field-0-is e.ensures.stopped)
-          (c.in_ok-broken_off-in-Err-Wide.ensures ∙ ap₂ (λ n w. refused (wide_refusal k.names (AfterLook n) w)) e.place-is e.wide-is),
+          (c.in_ok-stopped_answer-in-Err-Wide.ensures ∙ ap₂ (λ n w. refused (wide_refusal k.names (AfterLook n) w)) e.place-is e.wide-is),
       tt,
       e.ensures.counted (λ f. cc (f, e.field-0-is)) ∙ r.ensures.ends.1,
     )

@@ -1,5 +1,5 @@
 use Rattle.field_core.specs.NumberField.{number_field}
-use Rattle.textbook.proofs.OnlySolutions.{no_edges}
+use Rattle.textbook.proofs.ExampleWeights.{no_edges}
 use Rattle.textbook.proofs.examples.weights_stay_without_edges.Goals as goal
 
 pub returns : goal.returns

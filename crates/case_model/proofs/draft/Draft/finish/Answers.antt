@@ -1,8 +1,9 @@
-use Rattle.std.proofs.Common.{◌≡◌, sym, ap, ◌∙◌, inl, inr, None, Some, arith}
-use Rattle.std.proofs.lemmas.Grind.{merely}
+use Rattle.std.proofs.Common.{◌≡◌, sym, ap, subst, ◌∙◌, inl, inr, None, Some, arith}
 use Rattle.std.specs.List.{list_all}
 use Rattle.case_model.specs.Draft.{goes_between, have_known_ends}
 use Rattle.case_model.specs.CaseFaults.{early_fault}
+use Rattle.case_model.specs.Validity.{IsValidContent}
+use Rattle.case_model.proofs.DraftValidity.{valid_of}
 use Rattle.case_model.proofs.Faultless.{few_names, early_is, late_is, content_by_parts}
 use Rattle.case_model.proofs.draft.Draft.finish.Goals as goal
 use Rattle.case_model.proofs.draft.Draft.finish.Goals.{In_default}
@@ -24,14 +25,11 @@ pub of-requires-clause-valid : goal.of-requires-clause-valid
 of-requires-clause-valid c =
     let d = c.args.self in
     let parts = c.in-Ok.parts in
-    merely (record {
-      draft = d;
-      content_is = sym (content_by_parts d c.len.result c.as_slice.result.now parts.components parts.inputs c.len.ensures c.as_slice.ensures
-          c.in-Ok.ensures.components c.in-Ok.ensures.inputs);
-      faultless = late_is d c.len.result c.as_slice.result.now None
-          (none_early ((goal.at.of-requires-clause-valid c).In_default)) c.len.ensures c.as_slice.ensures c.in-Ok.ensures.faultless;
-      known_arrivals = c.requires.arrivals;
-    })
+    let faultless = late_is d c.len.result c.as_slice.result.now None
+    (none_early ((goal.at.of-requires-clause-valid c).In_default)) c.len.ensures c.as_slice.ensures c.in-Ok.ensures.faultless in
+    subst IsValidContent
+    (sym (content_by_parts d c.len.result c.as_slice.result.now parts.components parts.inputs c.len.ensures c.as_slice.ensures
+    c.in-Ok.ensures.components c.in-Ok.ensures.inputs)) (valid_of d c.requires.ends c.requires.arrivals faultless)
 
 pub returns-in-Ok-clause-case : goal.returns-in-Ok-clause-case
 returns-in-Ok-clause-case c =

@@ -7,7 +7,8 @@ use Rattle.discovery_bound.specs.BoundsView.{bound_of}
 use Rattle.report.specs.SimesReport.{IsSimesReport}
 use Rattle.simes_test.specs.SimesAnswers.{AreSimesClosedAnswers}
 use Rattle.graph_cli.specs.Simes.{ReportsSimes, simes_stage}
-use Rattle.graph_cli.proofs.HandedOn.{err_on}
+use Rattle.graph_cli.specs.declared.trouble.Trouble.{Trouble}
+use Rattle.graph_cli.proofs.HandedOn.{part_err_on}
 use Rattle.graph_cli.proofs.Refusing.{sums_refuse}
 use Rattle.graph_cli.proofs.SimesCalls.{simes_bounds, leaders_apart}
 use Rattle.graph_cli.proofs.commands.simes.simes_answer.Goals as goal
@@ -15,11 +16,9 @@ use Rattle.graph_cli.proofs.commands.simes.simes_answer.Goals as goal
 pub returns-in_err-table : goal.returns-in_err-table
 unfolding simes_stage
 returns-in_err-table c =
-    err_on _ _ _ c.from_residual-in_err-table.ensures.1 (λ some. inr (
-      content c.args.case.now,
-      (c.in_ok-weights.ensures.defined, refl),
-      inl (sums_refuse (content c.args.case.now) _ c.in_err-table.field-0.0 c.in_ok-weights.ensures.weights c.in_err-table.ensures.fault some),
-    ))
+    part_err_on _ _ _ _ c.from_residual-in_err-table.ensures.1
+    (λ (t : Trouble) h. inr (content c.args.case.now, (c.in_ok-weights.ensures.defined, refl), inl h))
+    (sums_refuse (content c.args.case.now) _ c.in_err-table.field-0.0 c.in_ok-weights.ensures.weights c.in_err-table.ensures.fault)
 
 pub simes_text-requires-clause-below : goal.simes_text-requires-clause-below
 simes_text-requires-clause-below c =

@@ -1,0 +1,3 @@
+pub mod UpdateText
+pub mod Updates
+pub mod UpdateLaws

@@ -1,0 +1,3 @@
+mod Texts
+mod Places
+pub mod Meaning
