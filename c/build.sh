@@ -41,8 +41,10 @@ link_libraries() {
     exported >"$room/exported"
     objcopy --keep-global-symbols="$room/exported" "$room/welungad.o"
     ar rcs "$room/libwelungad.a" "$room/welungad.o"
+    # the version of the names is that of the interface
+    sed "s/^{/WELUNGAD_$interface {/" "$here/welungad.map" >"$room/versions"
     cc -shared -o "$room/libwelungad.so.$release" -Wl,-soname,"libwelungad.so.$interface" -Wl,-z,defs -Wl,-z,now -Wl,-z,relro \
-        -Xlinker --version-script="$here/welungad.map" "$room/welungad.o"
+        -Xlinker --version-script="$room/versions" "$room/welungad.o"
     ln -s "libwelungad.so.$release" "$room/libwelungad.so.$interface"
     ln -s "libwelungad.so.$interface" "$room/libwelungad.so"
 }

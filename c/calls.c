@@ -9,6 +9,8 @@ uint8_t welungad_run_proved(const uint8_t *words, size_t words_len, const uint8_
 uint8_t welungad_read_proved(const uint64_t *bits, size_t bits_len, uint64_t *out, size_t out_len);
 uint8_t welungad_test_rows_proved(const uint8_t *kase, size_t kase_len, const uint64_t *p, size_t p_len, uint8_t *rejected,
                                   size_t rejected_len, uint8_t *statuses, size_t statuses_len);
+uint8_t welungad_update_proved(const uint8_t *kase, size_t kase_len, const size_t *removed, size_t removed_len, uint8_t *out,
+                               size_t out_len, size_t *needed);
 
 /* c/build.sh takes the text from the file VERSION. */
 const char *welungad_version(void) { return WELUNGAD_RELEASE; }
@@ -41,4 +43,14 @@ uint8_t welungad_test_rows(const uint8_t *kase, size_t kase_len, const uint64_t 
     return WELUNGAD_LENGTHS;
   return welungad_test_rows_proved(kase ? kase : &nothing, kase_len, p ? p : &no_words, p_len, rejected ? rejected : &nothing,
                                    rejected_len, statuses ? statuses : &nothing, statuses_len);
+}
+
+uint8_t welungad_update(const uint8_t *kase, size_t kase_len, const size_t *removed, size_t removed_len, uint8_t *out,
+                        size_t out_len, size_t *needed) {
+  size_t no_position = 0;
+  uint8_t nothing = 0;
+  if (is_missing(kase, kase_len) || is_missing(removed, removed_len) || is_missing(out, out_len) || needed == NULL)
+    return WELUNGAD_LENGTHS;
+  return welungad_update_proved(kase ? kase : &nothing, kase_len, removed ? removed : &no_position, removed_len,
+                                out ? out : &nothing, out_len, needed);
 }

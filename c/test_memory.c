@@ -131,6 +131,40 @@ static void try_rows(void) {
   fprintf(stderr, "rows: %ld allocations, %ld of %ld calls out of memory\n", count, out_of_memory, 2 * count);
 }
 
+/* By hand: 1/2 + 1/2 * (1 - epsilon) is (2 - epsilon)/2, and epsilon / (1 - (1 - epsilon)) is 1. */
+static const char UPDATED[] = "component 1\nweight B [2,-1]/[2]\nedge B C 1\nweight C [0,1]/[2]\nlevel B 1\nlevel C 0\nend\n";
+
+/* Updates CASE with one allocation refused, none if it is number 0, and returns whether that was out of memory. */
+static int refuse_update(long at) {
+  static uint8_t out[MOST];
+  const size_t first[1] = {0};
+  size_t needed = 0;
+  uint8_t got;
+  int is_out, is_own;
+  made = 0;
+  left = 0;
+  refused = at;
+  got = welungad_update((const uint8_t *)CASE, strlen(CASE), first, 1, out, MOST, &needed);
+  is_out = got == WELUNGAD_NO_MEMORY && needed == 10 && memcmp(out, "no memory\n", 10) == 0;
+  is_own = got == WELUNGAD_DONE && needed == strlen(UPDATED) && memcmp(out, UPDATED, needed) == 0;
+  if (left != 0 || !(at ? is_out || (is_own && !all_after) : is_own)) {
+    findings++;
+    fprintf(stderr, "update: allocation %ld refused: status %d, %ld blocks left\n", at, got, left);
+  }
+  return is_out;
+}
+
+static void try_update(void) {
+  long count, at, out_of_memory = 0;
+  counting = 1;
+  refuse_update(0);
+  count = made;
+  for (all_after = 0; all_after < 2; all_after++)
+    for (at = 1; at <= count; at++) out_of_memory += refuse_update(at);
+  counting = 0;
+  fprintf(stderr, "update: %ld allocations, %ld of %ld calls out of memory\n", count, out_of_memory, 2 * count);
+}
+
 /* Whether the call that reads doubles allocates nothing. */
 static void try_reading(void) {
   const uint64_t bits[4] = {0x3fd5555555555555u, 0x3fd3333333333334u, 1, 0x7ff8000000000000u};
@@ -161,6 +195,7 @@ int main(void) {
   try_call((struct call){"stages", 7, STAGED, "", 0});
   try_call((struct call){"canon\0--to\0json", 16, CASE, "", 0});
   try_rows();
+  try_update();
   try_reading();
   fprintf(stderr, "test_memory: %d findings\n", findings);
   return findings != 0;

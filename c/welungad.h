@@ -1,5 +1,5 @@
 /* Welungad as a C library: words, a case and a proof in, a text and a status out. Two calls are for numbers: one reads doubles as
- * fractions, one decides many rows of p-values on one graph.
+ * fractions, one decides many rows of p-values on one graph. One more returns the graph that is left after rejections.
  *
  * The text is the program's, byte for byte. Each call is independent: the library keeps nothing between calls, and touches no
  * file, device or global variable.
@@ -10,7 +10,8 @@
  * - The inputs (the pointers to const) stay as they are during the call. They may overlap each other.
  * - The outputs (the other pointers) overlap neither each other nor the inputs.
  * - malloc, realloc and free are of one allocator, and align a block to each power of two up to 16 that divides its size.
- * - No call is made from a signal handler, or in the forked child of a process with threads.
+ * - No call is made from a signal handler. In the forked child of a process with threads a call is made only if malloc, realloc and free
+ *   may be called there: POSIX doesn't allow it, and glibc does.
  * - The thread has 512 KiB of stack left.
  *
  * Pointers. Each may be NULL if its length is 0. A call with another NULL, also for needed, is answered with WELUNGAD_LENGTHS.
@@ -33,6 +34,9 @@ extern "C" {
 
 #define WELUNGAD_INTERFACE 1
 
+/* The release of this header. welungad_version returns that of the library. */
+#define WELUNGAD_VERSION "0.2.0"
+
 /* Returns the number of the interface that the library was built with. Compare it with WELUNGAD_INTERFACE: it changes when a
  * parameter, a status or the meaning of a call changes. */
 uint32_t welungad_interface(void);
@@ -51,10 +55,17 @@ enum {
   WELUNGAD_NO_MEMORY = 8,  /* Out of memory. The text is "no memory\n". */
   WELUNGAD_WORDS = 10,     /* The words are not UTF-8, or the last one has no byte 0 at its end. *needed is 0; out stays. */
   WELUNGAD_LENGTHS = 11    /* The lengths of a call on numbers don't fit each other, or a pointer is NULL that may not be. Nothing
-                              is written. */
+                              is written. welungad_update: the positions are not those of hypotheses, each once. */
 };
 
-/* Runs the program's command in memory, and returns its status. Statuses 2 to 5 come with one line as the text: the refusal.
+/* Runs the program's command in memory, and returns its status. Statuses 2 to 5 come with one line as the text: the refusal. Texts of
+ * char are handed in by a cast, and the last byte 0 of a word is part of it:
+ *
+ *   const char words[] = "test", kase[] = "alpha 0.025\nhypotheses A\np 0.01\nweights 1\n";
+ *   char out[4096];
+ *   size_t needed;
+ *   uint8_t status = welungad_run((const uint8_t *)words, sizeof words, (const uint8_t *)kase, sizeof kase - 1, NULL, 0,
+ *                                 (uint8_t *)out, sizeof out, &needed);
  *
  * words   The words after the program's name, each ended by a byte 0: "test\0" (5 bytes), "check\0-\0" (8 bytes). A study's
  *         words are answered with WELUNGAD_USAGE.
@@ -104,6 +115,38 @@ uint8_t welungad_read(const uint64_t *bits, size_t bits_len, uint64_t *out, size
  * - WELUNGAD_NO_MEMORY: out of memory. */
 uint8_t welungad_test_rows(const uint8_t *kase, size_t kase_len, const uint64_t *p, size_t p_len, uint8_t *rejected,
                            size_t rejected_len, uint8_t *statuses, size_t statuses_len);
+
+/* Puts the graph of a case after rejections: the update of the graphical procedure, rejection after rejection. Nothing is tested, so
+ * any hypotheses may be named.
+ *
+ * kase     The text of a case, with or without p-values or stages. These are read as every command reads them, and are not used.
+ * removed  The positions of the rejected hypotheses, from 0 on, in the order of their removal, each once. With removed_len 0 the
+ *          text is that of the case as it was given.
+ * out      Room for the text. What is after the text stays. If the text does not fit, the status is WELUNGAD_ROOM and out holds
+ *          the text's first out_len bytes; call again with room for *needed bytes.
+ * needed   Becomes the length of the whole text.
+ *
+ * The text has one line for each of these, with one blank between words:
+ *   component K      for each component, from 1 on. After it, for each remaining hypothesis in the order of the case:
+ *   weight NAME N    its weight in this component,
+ *   edge FROM TO N   and each of its edges that is not 0, in the order of the case.
+ *   level NAME F     After the last component, for each remaining hypothesis: its weight over all components, from 0 to 1.
+ *   end
+ * F is a fraction in lowest terms, such as 1/3. N is one too, unless an edge of the case has an epsilon: then it is a quotient of
+ * polynomials in epsilon, as evidence has them, such as [1,-1]/[2]. A constant is a fraction.
+ *
+ * Returns
+ * - WELUNGAD_DONE: the text is the graph;
+ * - WELUNGAD_MALFORMED, WELUNGAD_LIMIT or WELUNGAD_TOO_WIDE: the case is refused, and the text is the line with which
+ *   welungad_run and the word "canon" refuse it;
+ * - WELUNGAD_TOO_WIDE also if a number of the opening or of a removal is too wide. The text then is a line
+ *   "too wide: step S: component K PLACE OPERATION", where S is the number of the removal from 1 on, and 0 the opening;
+ * - WELUNGAD_ROOM: the text does not fit into out;
+ * - WELUNGAD_NO_MEMORY: out of memory. The text is "no memory\n";
+ * - WELUNGAD_LENGTHS: a position is not below the number of hypotheses, or is there twice. *needed is 0, and out stays. Or a
+ *   pointer is NULL that may not be, and nothing is written. */
+uint8_t welungad_update(const uint8_t *kase, size_t kase_len, const size_t *removed, size_t removed_len, uint8_t *out,
+                        size_t out_len, size_t *needed);
 
 #ifdef __cplusplus
 }
