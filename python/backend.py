@@ -1,24 +1,27 @@
-"""The build backend: setuptools reads the package, and this module adds the C library and writes the wheel.
+"""The build backend: setuptools reads the package, and this module adds what was proved and built, and writes the wheel.
 
     pip install --no-build-isolation ./python
 
-A wheel has the library of the checkout or of the installation that this folder lies in, or the one that WELUNGAD_LIBRARY names, if
-it is the one that its stamp names. Without a library the wheel has none, and the package looks for one when it is first used. So it
-is with the scripts that make a page of a decision, which are those of the folder tools beside this one.
+A wheel has the library and the program of the checkout or of the installation that this folder lies in, or those that
+WELUNGAD_LIBRARY and WELUNGAD name, if they are those that their stamps name; without one of them there is no wheel. It also has the
+reviewers' scripts, which are those of the folder tools beside this one, the page of refusals, and the examples, by which an
+installation is tested.
 
-setuptools below 70.1 cannot write a wheel without the package `wheel`, which no environment has by itself. Nothing is written
-to this folder, which may be one that only its owner writes.
+setuptools below 70.1 cannot write a wheel without the package `wheel`, which no environment has by itself, and below 77 it cannot read
+the expression of a licence. Nothing is written to this folder, which may be one that only its owner writes.
 """
 import base64
 import contextlib
 import hashlib
 import os
+import platform
+import re
 import shutil
 import sys
 import sysconfig
 import tempfile
 import zipfile
-from typing import Any, Dict, Iterator, List, Optional, Tuple
+from typing import Any, Dict, Iterator, List, NamedTuple, Optional, Tuple
 
 with contextlib.suppress(OSError, NameError):
     sys.dont_write_bytecode = True
@@ -28,8 +31,11 @@ with contextlib.suppress(OSError, NameError):
 _HERE = os.path.dirname(os.path.abspath(__file__))
 _SOURCES = ("pyproject.toml", "README.md", "welungad")
 _LICENCES = ("LICENSE", "LICENSE-MIT", "LICENSE-APACHE")
-_LEAST = 61
+_LEAST, _READS_EXPRESSIONS = 61, 77
 _LIBRARY = "libwelungad.so"
+# The reviewers' scripts that a wheel has, as far as they are there.
+_SCRIPTS = ("check_evidence", "make_evidence", "closed_test", "staged_case", "check_page", "qualify")
+_LEAST_GLIBC = 17
 _LONG_AGO = (1980, 1, 1, 0, 0, 0)
 
 Settings = Optional[Dict[str, Any]]
@@ -43,12 +49,13 @@ def get_requires_for_build_wheel(config_settings: Settings = None) -> List[str]:
 def build_wheel(wheel_directory: str, config_settings: Settings = None, metadata_directory: Optional[str] = None) -> str:
     """Writes the wheel, and returns its name."""
     target = os.path.abspath(wheel_directory)
+    built = _built()
     with _copy() as folder:
         _run_setuptools(folder)
         room = os.path.join(folder, "lib")
-        has_library = _add_library(os.path.join(room, "welungad"))
-        _add_scripts(os.path.join(room, "welungad"))
-        return _write(target, room, _metadata(folder), has_library)
+        _add_built(os.path.join(room, "welungad"), built)
+        _add_texts(os.path.join(room, "welungad"))
+        return _write(target, room, _metadata(folder), built)
 
 
 def build_editable(wheel_directory: str, config_settings: Settings = None, metadata_directory: Optional[str] = None) -> str:
@@ -60,7 +67,7 @@ def build_editable(wheel_directory: str, config_settings: Settings = None, metad
         os.mkdir(room)
         with open(os.path.join(room, "welungad.pth"), "w", encoding="utf-8") as file:
             file.write(_HERE + "\n")
-        return _write(target, room, _metadata(folder), False)
+        return _write(target, room, _metadata(folder), None)
 
 
 def build_sdist(sdist_directory: str, config_settings: Settings = None) -> str:
@@ -93,62 +100,100 @@ def _run_setuptools(folder: str) -> None:
     """Lets setuptools put the package into `lib`, and its metadata into `info`."""
     import setuptools
 
-    if int(setuptools.__version__.split(".")[0]) < _LEAST:
+    release = int(setuptools.__version__.split(".")[0])
+    if release < _LEAST:
         raise SystemExit(f"welungad: setuptools {_LEAST} or later is needed, and this is {setuptools.__version__}")
+    if release < _READS_EXPRESSIONS:
+        _rewrite_licence(os.path.join(folder, "pyproject.toml"))
     os.mkdir(os.path.join(folder, "info"))
     setuptools.setup(script_name="setup.py", script_args=["--quiet", "egg_info", "--egg-base", "info", "build_py", "--build-lib", "lib"])
 
 
+def _rewrite_licence(path: str) -> None:
+    """Writes the licence of a copy of pyproject.toml as an older setuptools reads it."""
+    with open(path, encoding="utf-8") as file:
+        text = file.read()
+    with open(path, "w", encoding="utf-8") as file:
+        file.write(re.sub(r'(?m)^license = (".*")$', r"license = {text = \1}", text))
+
+
 def _metadata(folder: str) -> str:
+    """Returns the metadata: with the licence as an expression, and with no link that leads nowhere outside of a checkout."""
     with open(os.path.join(folder, "info", "welungad.egg-info", "PKG-INFO"), encoding="utf-8") as file:
-        return file.read()
+        head, _, description = file.read().partition("\n\n")
+    lines = [line for line in head.split("\n") if not line.startswith(("Metadata-Version:", "License-File:"))]
+    lines = [re.sub("^License:", "License-Expression:", line) for line in lines] + [f"License-File: {name}" for name, _ in _licences()]
+    return "\n".join(["Metadata-Version: 2.4", *lines]) + "\n\n" + re.sub(r"\[([^\]]*)\]\((?!https?:)[^)]*\)", r"\1", description)
 
 
-# ---- the library
+# ---- what was proved and built
 
 
-def _add_library(package: str) -> bool:
-    """Copies the library into the package, if there is one, with a stamp that has its checksum and the path of the program beside
-    it, which studies run. Refuses a library that its stamp does not name."""
+class _Built(NamedTuple):
+    """The paths of the library and of the program, which are those that their stamps name."""
+
+    library: str
+    program: str
+
+
+def _built() -> _Built:
+    """Returns what a wheel has. Refuses to make one without it, and one of another file than its stamp names."""
     sys.path.insert(0, _HERE)
-    from welungad import _library, _program
+    from welungad import _library
 
-    path = next((path for path in _library.places() if os.path.isfile(path)), None)
-    if path is None:
-        if os.environ.get("WELUNGAD_LIBRARY"):
-            raise SystemExit(f"welungad: WELUNGAD_LIBRARY names {_library.places()[0]}, and there is no such file")
-        return False
+    library = next(filter(os.path.isfile, _library.library_places()), None)
+    if library is None and os.environ.get("WELUNGAD_LIBRARY"):
+        raise SystemExit(f"welungad: WELUNGAD_LIBRARY names {_library.library_places()[0]}, and there is no such file")
+    if library is None:
+        raise SystemExit(f"welungad: a wheel needs {_LIBRARY}, which is none of {', '.join(_library.library_places())}: build it by c/build.sh, "
+                         "or let the environment variable WELUNGAD_LIBRARY name it")
     try:
-        _library.hold(path)
+        _library.hold(library)
+        return _Built(library, _library.program_path())
     except OSError as error:
         raise SystemExit(f"welungad: {error}") from error
-    copy = os.path.join(package, _LIBRARY)
-    shutil.copyfile(path, copy)
-    program = next((path for path in _program.program_places() if os.path.isfile(path) and "\n" not in path), None)
-    with open(copy, "rb") as file, open(os.path.join(package, "stamp"), "w", encoding="utf-8", errors="surrogateescape") as stamp:
-        stamp.write(f"sha256 {_LIBRARY} {hashlib.sha256(file.read()).hexdigest()}\n")
-        stamp.write(f"program {program}\n" if program else "")
-    return True
 
 
-# ---- the scripts
+def _add_built(package: str, built: _Built) -> None:
+    """Copies the library into the package, with a stamp that has its checksum and that of the program."""
+    shutil.copyfile(built.library, os.path.join(package, _LIBRARY))
+    lines = [f"sha256 {name} {_hex(path)}\n" for name, path in ((_LIBRARY, built.library), ("welungad", built.program))]
+    with open(os.path.join(package, "stamp"), "w", encoding="utf-8") as stamp:
+        stamp.write("".join([*_origin(built.program), *(f"library {line}" for line in _origin(built.library)), *lines]))
 
 
-def _add_scripts(package: str) -> None:
-    """Copies the scripts that make a page, and the page of the causes of refusals, into the package, if they are there."""
-    sys.path.insert(0, _HERE)
-    from welungad import _page
+def _hex(path: str) -> str:
+    with open(path, "rb") as file:
+        return hashlib.sha256(file.read()).hexdigest()
 
-    try:
-        tools = _page.tools()
-    except OSError:
-        return
-    copies = {os.path.join("tools", f"{name}.py"): os.path.join(tools, f"{name}.py") for name in _page.SCRIPTS}
-    copies[_page.CAUSES] = os.path.join(os.path.dirname(tools), _page.CAUSES)
+
+def _origin(path: str) -> List[str]:
+    """Returns the lines of the stamp of a file about what it was built from."""
+    from welungad import _library
+
+    with open(_library.stamp_of(path), encoding="utf-8", errors="replace") as file:
+        lines = [line.split(" ", 1) for line in file]
+    # the identity of an installation has the lines of both
+    before = "library " if os.path.basename(path).startswith(_LIBRARY) and any(words[0] == "library" for words in lines) else ""
+    texts = [" ".join(words) for words in lines]
+    return [text[len(before):] for text in texts if text.startswith(tuple(f"{before}{word} " for word in ("built", "commit", "kit")))]
+
+
+# ---- texts and scripts
+
+
+def _add_texts(package: str) -> None:
+    """Copies the reviewers' scripts, the page of refusals and the examples into the package, if they are there."""
+    top = os.path.dirname(_HERE)
+    copies = {f"reviewer/{name}.py": os.path.join(top, "tools", f"{name}.py") for name in _SCRIPTS}
+    copies["REFUSALS.md"] = os.path.join(top, "docs", "REFUSALS.md")
+    with contextlib.suppress(FileNotFoundError):
+        copies.update({f"examples/{name}": os.path.join(top, "examples", name) for name in sorted(os.listdir(os.path.join(top, "examples")))})
     for place, path in copies.items():
-        copy = os.path.join(package, _page.COPY, place)
+        copy = os.path.join(package, place)
         os.makedirs(os.path.dirname(copy), exist_ok=True)
-        shutil.copyfile(path, copy)
+        with contextlib.suppress(FileNotFoundError):
+            shutil.copyfile(path, copy)
 
 
 # ---- the wheel
@@ -177,28 +222,45 @@ def _licences() -> Iterator[Tuple[str, bytes]]:
             yield name, file.read()
 
 
-def _write(wheel_directory: str, room: str, metadata: str, has_library: bool) -> str:
-    """Writes the files below a folder as a wheel, and returns its name. The same files make the same bytes."""
-    platform = sysconfig.get_platform().replace("-", "_").replace(".", "_") if has_library else "any"
-    stem = f"welungad-{_version(metadata)}"
-    information = f"{stem}.dist-info"
-    pure = "false" if has_library else "true"
-    head = f"Wheel-Version: 1.0\nGenerator: welungad\nRoot-Is-Purelib: {pure}\nTag: py3-none-{platform}\n"
-    contents = {}
-    for path in _files(room):
+def _platform(built: Optional[_Built]) -> str:
+    """Returns the platform of a wheel. That of Linux names the release of glibc that its files need, which is 2.17 or a later one."""
+    if built is None:
+        return "any"
+    found = sysconfig.get_platform().replace("-", "_").replace(".", "_")
+    if not found.startswith("linux_") or platform.libc_ver()[0] != "glibc":
+        return found
+    needed = [_LEAST_GLIBC]
+    for path in built:
         with open(path, "rb") as file:
-            contents[os.path.relpath(path, room).replace(os.sep, "/")] = file.read()
+            needed += [int(minor) for minor in re.findall(rb"GLIBC_2\.([0-9]+)", file.read())]
+    return f"manylinux_2_{max(needed)}_{found[len('linux_'):]}"
+
+
+def _write(wheel_directory: str, room: str, metadata: str, built: Optional[_Built]) -> str:
+    """Writes the files below a folder and the program as a wheel, and returns its name. The same files make the same bytes."""
+    stem, tag = f"welungad-{_version(metadata)}", f"py3-none-{_platform(built)}"
+    information = f"{stem}.dist-info"
+    pure = "false" if built else "true"
+    head = f"Wheel-Version: 1.0\nGenerator: welungad\nRoot-Is-Purelib: {pure}\nTag: {tag}\n"
+    paths = {os.path.relpath(path, room).replace(os.sep, "/"): path for path in _files(room)}
+    program = f"{stem}.data/scripts/welungad"
+    if built:
+        paths[program] = built.program
+    contents = {}
+    for place, path in paths.items():
+        with open(path, "rb") as file:
+            contents[place] = file.read()
     contents[f"{information}/METADATA"] = metadata.encode("utf-8")
     for licence, content in _licences():
         contents[f"{information}/licenses/{licence}"] = content
     contents[f"{information}/WHEEL"] = head.encode("ascii")
     lines = [f"{name},{_digest(content)},{len(content)}\n" for name, content in contents.items()]
     contents[f"{information}/RECORD"] = "".join([*lines, f"{information}/RECORD,,\n"]).encode("utf-8")
-    name = f"{stem}-py3-none-{platform}.whl"
+    name = f"{stem}-{tag}.whl"
     with zipfile.ZipFile(os.path.join(wheel_directory, name), "w", zipfile.ZIP_DEFLATED) as wheel:
         for place, content in contents.items():
             entry = zipfile.ZipInfo(place, _LONG_AGO)
-            entry.external_attr = 0o644 << 16
+            entry.external_attr = (0o100755 if place == program else 0o100644) << 16  # pip reads the mode of a regular file alone
             entry.compress_type = zipfile.ZIP_DEFLATED
             wheel.writestr(entry, content)
     return name

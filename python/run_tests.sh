@@ -1,6 +1,6 @@
 #!/bin/sh
-# Runs the tests of the package over c/out/libwelungad.so, which it builds if it isn't built: in the checkout, and then in fresh
-# environments without a network, into which it installs the package from the checkout and from an installation of it.
+# Runs the tests of the package over c/out/libwelungad.so and the program, which it builds if they aren't built: in the checkout, and
+# then in fresh environments without a network, into which it installs the package from the checkout and from an installation of it.
 #
 # PYTHON names the interpreter; else each part takes the first of python3 and /usr/bin/python3 that has what it needs. Ends with
 # status 1 if a test fails, and with 77 if a tool is missing, after a line that names it and what was left out.
@@ -31,11 +31,11 @@ first_that() {
     done
 }
 
-any=$(first_that 'import sys; assert sys.version_info >= (3, 8)')
-[ -n "$any" ] || skip 'python3, 3.8 or later,'
-if ! "$top/c/build.sh"; then
+any=$(first_that 'import sys; assert sys.version_info >= (3, 10)')
+[ -n "$any" ] || skip 'python3, 3.10 or later,'
+if ! "$top/c/build.sh" || ! "$top/welungad" help >/dev/null; then
     for tool in rt cc ld ar objcopy; do
-        command -v "$tool" >/dev/null || skip "$tool, by which the C library is built,"
+        command -v "$tool" >/dev/null || skip "$tool, by which the library and the program are built,"
     done
     exit 1
 fi
@@ -58,13 +58,14 @@ make_environment() {
     "$room/venv/bin/python" -c 'import setuptools; assert int(setuptools.__version__.split(".")[0]) >= 61' 2>/dev/null
 }
 
-# Installs the package from a folder into a fresh environment, and runs a copy of the tests there, with a program.
+# Installs the package from a folder into a fresh environment, and runs a copy of the tests there, with the library and the program of
+# its wheel.
 try_installed() {
     rm -rf -- "$room/tests"
     make_environment
     "$room/venv/bin/python" -m pip install --quiet --no-index --no-build-isolation --disable-pip-version-check "$1"
     cp -R -- "$here/tests" "$room/tests"
-    (cd -- "$room" && WELUNGAD=$2 WELUNGAD_TOP=$top WELUNGAD_INSTALLED=$room/venv run_tests "$room/venv/bin/python")
+    (cd -- "$room" && WELUNGAD_TOP=$top WELUNGAD_INSTALLED=$room/venv run_tests "$room/venv/bin/python")
 }
 
 # in the checkout
@@ -74,16 +75,14 @@ python=${python:-$any}
 cd -- "$here"
 "$python" -m compileall -q welungad tests backend.py
 run_tests "$python"
-program=$("$python" -c 'from welungad import _program; print(_program.program_path())' 2>/dev/null) ||
-    note 'the program welungad, without which studies are not tested'
 
 # in environments of its own
 if ! make_environment; then
     note 'venv with setuptools 61 or later, without which the package is not installed'
 else
-    try_installed "$here" "$program"
+    try_installed "$here"
     if "$top/install" "$room/prefix" >"$room/said" 2>&1; then
-        try_installed "$room/prefix/share/welungad/python" "$room/prefix/bin/welungad"
+        try_installed "$room/prefix/share/welungad/python"
     else
         note "an installation, from which the package is not installed ($(tail -n 1 "$room/said"))"
     fi

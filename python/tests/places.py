@@ -12,6 +12,14 @@ ROWS = os.path.join(TOP, "crates", "acceptance", "data")
 needs_rows = unittest.skipUnless(os.path.isdir(ROWS), f"{ROWS} is missing")
 
 
+def table(name):
+    """Yields the rows of a table of this folder that R reads too: the parts of a line, which are parted by |."""
+    with open(os.path.join(os.path.dirname(os.path.abspath(__file__)), name), encoding="utf-8") as file:
+        for line in file:
+            if not line.startswith("#"):
+                yield [part.strip() for part in line.split("|")]
+
+
 def example(name):
     """Returns the text of an example."""
     with open(os.path.join(EXAMPLES, name), encoding="utf-8") as file:

@@ -17,12 +17,13 @@ import subprocess
 import sys
 import threading
 import time
+import warnings
 from fractions import Fraction
 
 if __name__ == "__main__":
     sys.path.insert(0, os.path.join(os.path.dirname(os.path.abspath(__file__)), ".."))
 import welungad
-from welungad import _program
+from welungad import _library
 
 COMMANDS = ["test", "test", "test last", "test ratio", "evidence", "weights", "bounds", "simes", "stages"]
 
@@ -74,9 +75,11 @@ class Call:
                 return 0, graph.weights().report.encode()
             if self.command == "stages":
                 looks = [(name, stage, numbers(chance, [it])[0]) for name, stage, it in self.looks]
-                return 0, graph.stages([numbers(chance, own) for own in self.levels], looks, alpha).report.encode()
+                return 0, graph.stages([numbers(chance, own) for own in self.levels], looks, alpha, at=1).report.encode()
             options = {"priority": self.priority} if self.priority else {}
-            return 0, getattr(graph, self.command)(p, alpha, **options).report.encode()
+            with warnings.catch_warnings():
+                warnings.simplefilter("ignore", welungad.ZeroWarning)
+                return 0, getattr(graph, self.command)(p, alpha, **options).report.encode()
         except welungad.Refused as refused:
             return refused.status, refused.line.encode() + b"\n"
 
@@ -151,7 +154,7 @@ def main():
         made, wrong = run_threads(given.threads, given.seconds, given.seed)
         print(f"{given.threads} threads, {given.seconds:g} seconds: {made} calls, {wrong} wrong")
         return 1 if wrong or not made else 0
-    differences, decided = compare(given.calls, given.seed, given.program or _program.program_path())
+    differences, decided = compare(given.calls, given.seed, given.program or _library.program_path())
     for difference in differences[:20]:
         print(difference)
     print(f"{given.calls} calls, {decided} decided: {len(differences)} differences")

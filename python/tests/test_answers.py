@@ -6,7 +6,7 @@ from fractions import Fraction
 from unittest import mock
 
 import welungad
-from welungad import _graph, _reports
+from welungad import _case, _graph, _reports
 
 DECISION = """\
 alpha 1/40
@@ -84,12 +84,12 @@ class Whole(unittest.TestCase):
 
     def test_canonical_texts(self):
         text = "alpha 1/40\nhypotheses A B\np 1/100 9/10\nweights 1/2 1/2\nedge A B 1-2/3*\\epsilon^2\n"
-        found = _reports.read_canonical(text)
+        found = _case.read_canonical(text)
         self.assertEqual((found.p, found.shares), ({"A": Fraction(1, 100), "B": Fraction(9, 10)}, [1]))
         self.assertEqual(found.edges, [{("A", "B"): welungad.Quotient((Fraction(1), Fraction(0), Fraction(-2, 3)), (Fraction(1),))}])
         for old, new in [("1-2/3", "1-x"), ("edge", "edges"), ("weights 1/2", "weights 1/0"), ("edge A B", "edge A"), ("alpha 1/40", "alpha 1/40 1")]:
             with self.subTest(new), self.assertRaisesRegex(welungad.BadAnswer, "^what answered is not an answer to canon: "):
-                _reports.read_canonical(text.replace(old, new))
+                _case.read_canonical(text.replace(old, new))
 
     def test_hypotheses_in_another_order(self):
         text = DECISION.replace("kept B p 9/10 weight 1\nrejected A\n", "step 2 B p 1/50 weight 1\nrejected B A\n")
@@ -102,6 +102,18 @@ class Whole(unittest.TestCase):
                          ("adjusted A", "adjusted B"), ("adjusted A 1/50", "adjusted A"), ("adjusted A 1/50", "adjusted"), ("step 1 A p 1/100 weight 1/2", "step")]:
             with self.subTest((old, new)), self.assertRaises(welungad.BadAnswer):
                 read("test", DECISION.replace(old, new), _reports.read_decision)
+
+    def test_sets_in_another_order(self):
+        """Whether the sets of an answer are in their order, each with its members in theirs."""
+        for command, text, function in WHOLE[1:4]:
+            lines = text.splitlines(True)
+            for changed in [[lines[0], lines[2], lines[1], *lines[3:]], [*lines[:2], lines[3], lines[2], *lines[4:]]]:
+                with self.subTest((command, changed)), self.assertRaises(welungad.BadAnswer):
+                    read(command, "".join(changed), function)
+            for old, new in [("A=1/2 B=1/2", "B=1/2 A=1/2"), ("of A B", "of B A"), ("bound 1 of A B", "bound 3 of A B")]:
+                if old in text:
+                    with self.subTest((command, new)), self.assertRaises(welungad.BadAnswer):
+                        read(command, text.replace(old, new), function)
 
     def test_a_changed_line_raises_nothing_else(self):
         chance = random.Random(8)
@@ -162,10 +174,10 @@ class Law(unittest.TestCase):
     def test_other_looks(self):
         text = STAGES.replace("kept B\n", "")
         levels = [[0.01, 0.01], [0.01, 0.01]]
-        self.assertEqual(self.graph(text).stages(levels, [("A", 1, 0.01)]).rejected, ("A",))
+        self.assertEqual(self.graph(text).stages(levels, [("A", 1, 0.01)], at=1).rejected, ("A",))
         for looks in [[], [("A", 2, 0.01)], [("A", 1, 0.02)], [("B", 1, 0.01)]]:
             with self.subTest(looks), self.assertRaisesRegex(welungad.BadAnswer, "other looks"):
-                self.graph(text).stages(levels, looks)
+                self.graph(text).stages(levels, looks, at=1)
 
     def test_another_graph(self):
         for canonical in ["alpha 1/40\nhypotheses A B\nweights 1/2 1/2\nedge A B 1\n", "alpha 1/40\nhypotheses B A\nweights 1/2 1/2\n",

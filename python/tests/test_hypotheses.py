@@ -8,6 +8,7 @@ import sqlite3
 import unittest
 from fractions import Fraction
 
+import places
 from welungad import _hypotheses
 
 try:
@@ -77,6 +78,16 @@ class Names(unittest.TestCase):
             with self.subTest(labels):
                 self.assertEqual(_hypotheses.names_for(labels), names)
 
+    def test_the_table_of_names(self):
+        """Whether names are those of the table that R reads too."""
+        count = 0
+        for labels, names in places.table("label_names.txt"):
+            texts = [label.replace("\\t", "\t").replace("\\n", "\n") for label in labels.split(", ")]
+            with self.subTest(labels):
+                self.assertEqual(_hypotheses.names_for(texts), tuple(names.split(", ")))
+            count += 1
+        self.assertGreater(count, 12)
+
     def test_labels_are_distinct_texts(self):
         with self.assertRaisesRegex(ValueError, "^weights: the label 'low dose' occurs 2 times$"):
             _hypotheses.hold_labels(["low dose", "low dose"], "weights")
@@ -130,7 +141,7 @@ class Order(unittest.TestCase):
             _hypotheses.rows_of(collections.namedtuple("E", "B A")([0, 1], [1, 0]), "edges")
 
     def test_one_label_begins_another(self):
-        for labels in [("A", "AB", "ABC"), ("H1", "H10", "H1 "), ("", " ", "  ")]:
+        for labels in [("A", "AB", "ABC"), ("H1", "H10", "H1 0"), ("", "a", "a b")]:
             given = dict(zip(labels, (1, 2, 3)))
             for order in [labels, labels[::-1], labels[1:] + labels[:1]]:
                 self.assertEqual(_hypotheses.in_order({it: given[it] for it in order}, labels, "p"), [1, 2, 3])

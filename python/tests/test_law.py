@@ -4,8 +4,13 @@ Random graphs are given in random classes of input. The p-value, weight and edge
 of the case that was decided. Some inputs are spoiled, and some answers are cut; then the call has to be an error.
 """
 import collections
+import datetime
+import io
+import math
+import os
 import random
 import unittest
+import warnings
 from decimal import Decimal
 from fractions import Fraction
 from unittest import mock
@@ -23,6 +28,8 @@ except ImportError:
     pandas = None
 
 GRAPHS = 2000
+# of each further form; the variable WELUNGAD_TEST_ALL has all of them tried
+FORMS = 2000 if os.environ.get("WELUNGAD_TEST_ALL") else 300
 ERRORS = (TypeError, ValueError, welungad.Refused, welungad.BadAnswer)
 
 LABELS = ["A", "B", "H1", "H2", "H3", "low dose", "low_dose", "low  dose", "high dose", "dose ü", "dose ä", "α", "β", "", " ", "a\nb", "1", "2.5", "end",
@@ -225,7 +232,8 @@ class Law(unittest.TestCase):
         welungad.run(["help"])  # without the library there is one error
         chance = random.Random(20261130)
         library, counts = Cut(), collections.Counter()
-        with mock.patch.object(_graph, "run", library.run):
+        with mock.patch.object(_graph, "run", library.run), warnings.catch_warnings():
+            warnings.simplefilter("ignore", welungad.ZeroWarning)
             for number in range(GRAPHS):
                 with self.subTest(number):
                     self.hold(chance, library, counts)
@@ -255,7 +263,8 @@ class Law(unittest.TestCase):
         if repeats:
             names = [labels[0], *labels[:-1]]
         library.cut = chance.choice(CUTS) if chance.random() < 0.1 else None
-        due = is_spoiled or repeats or library.cut or of_weights in REFUSED_CLASSES or (of_p in REFUSED_CLASSES and not is_spoiled)
+        look_alike = len({" ".join(label.split()) for label in labels}) < size
+        due = is_spoiled or repeats or look_alike or library.cut or of_weights in REFUSED_CLASSES or (of_p in REFUSED_CLASSES and not is_spoiled)
         has_texts = any(getattr(getattr(it, "dtype", None), "kind", "") == "U" for it in [given_weights, given_p, edges, *rows_in(edges)])
         try:
             decision = welungad.Graph(given_weights, edges, names).test(given_p, in_class(chance, [alpha])[0])
@@ -280,6 +289,120 @@ class Law(unittest.TestCase):
         _, report = welungad.run(["test"], canonical)
         (rejected,) = [line.split(" ")[1:] for line in report.decode("ascii").split("\n") if line.startswith("rejected")]
         self.assertEqual(decision.rejected, tuple(found[name] for name in rejected))
+
+
+# ---- further forms: levels whose stages have labels, p-values near their level, sheets
+
+
+def stage_labels(chance, count):
+    """Returns labels of stages in their order, in a class of labels: numbers, texts of numbers, dates, times, or words."""
+    days = sorted(chance.sample(range(700000, 740000), count))
+    numbers = sorted(chance.sample([0.25, 0.5, 0.75, 1.0, 12.0, 104.0, 7.0], count))
+    return chance.choice([
+        numbers, [f"{it:g}" for it in numbers], [int(4 * it) for it in numbers], [datetime.date.fromordinal(it) for it in days],
+        [datetime.datetime.fromordinal(it) for it in days], [datetime.date.fromordinal(it).isoformat() for it in days],
+        chance.sample(["interim", "final", "week 12", "week 104", "IA 1", "IA2", "look", "end"], count), [f"stage {it}" for it in range(1, count + 1)],
+        [*range(1, count + 1)], [str(it) for it in range(1, count + 1)],
+    ])
+
+
+def is_counted(labels):
+    return [str(it).removeprefix("stage ") for it in labels] in ([str(it) for it in range(1, len(labels) + 1)], [f"{it:.1f}" for it in range(1, len(labels) + 1)])
+
+
+class Forms(unittest.TestCase):
+    """Whether the law holds for levels, near ties, and sheets."""
+
+    def setUp(self):
+        welungad.run(["help"])  # without the library there is one error
+
+    @unittest.skipUnless(pandas, "pandas is missing")
+    def test_stages(self):
+        """Whether levels are taken in the order of their stages, in whatever order a frame has these, or the call is an error."""
+        chance, counts = random.Random(20261201), collections.Counter()
+        for number in range(FORMS):
+            with self.subTest(number):
+                self.hold_stages(chance, counts)
+        self.assertGreater(min(counts["decided"], counts["refused"]), FORMS // 4)
+
+    def hold_stages(self, chance, counts):
+        names, size = ["A", "low dose"], chance.choice([2, 2, 3, 4])
+        labels = stage_labels(chance, size)
+        levels = {name: [Fraction(chance.randrange(1, 50), 40000) for _ in labels] for name in names}
+        order = chance.sample(range(size), size)
+        frame = pandas.DataFrame({name: [levels[name][at] for at in order] for name in names}, index=[labels[at] for at in order], dtype=object)
+        frame = frame[chance.sample(names, 2)]
+        frame = frame if chance.random() < 0.5 else frame.transpose()
+        stages = chance.choice([None, labels, [str(it) if isinstance(it, (int, str)) else it for it in labels]])
+        graph = welungad.Graph({"A": 1, "low dose": 0}, {"A": {"low dose": 1}}, names)
+        looks = [(chance.choice(names), at, "0.001") for at in range(1, size + 1)]
+        given = [(name, stages[at - 1] if stages else at, p) for name, at, p in looks]
+        try:
+            found = graph.stages(frame, given, stages=stages)
+        except ValueError:
+            # a look at stage 1 could mean the first stage, or another one whose label is 1
+            is_unclear = any(str(it) in (str(at), f"{at:.1f}") for number, it in enumerate(labels, 1) for at in range(1, size + 1) if at != number)
+            self.assertTrue(is_unclear or (stages is None and not (is_counted(labels) and order == sorted(order))), (labels, order, stages))
+            counts["refused"] += 1
+            return
+        counts["decided"] += 1
+        self.assertEqual(found.case, graph.stages(levels, looks).case, (labels, order, stages))
+
+    def test_near_ties(self):
+        """Whether a p-value a few units in the last place from its level is decided exactly, at the level of the call and by the adjusted
+        p-values, and a warning says that it is just above."""
+        chance, above = random.Random(20261202), 0
+        for number in range(FORMS):
+            with self.subTest(number):
+                above += self.hold_near_tie(chance)
+        self.assertGreater(above, FORMS // 10)
+
+    def hold_near_tie(self, chance):
+        weights = random_parts(chance, 2)
+        alpha = chance.choice([0.025, 0.05, 0.1, 0.015, 0.0125, 1 / 30, 0.01])
+        level = weights[0] * welungad.as_exact(alpha)
+        p = float(level)
+        for _ in range(chance.randrange(5)):
+            p = math.nextafter(p, chance.choice([0.0, 1.0]))
+        exact = welungad.as_exact(p)
+        with warnings.catch_warnings(record=True) as caught:
+            warnings.simplefilter("always")
+            decision = welungad.Graph(weights, {}, ["A", "B"]).test([p, 1.0], alpha=alpha)
+        rejected = 0 < level and exact <= level
+        self.assertEqual(decision.rejected, ("A",) if rejected else ())
+        self.assertEqual(decision.rejected_at(alpha), decision.rejected)
+        is_just_above = p > 0 and not rejected and exact > level and level.denominator <= 10000
+        self.assertEqual([it.category for it in caught if it.category is welungad.BesideWarning], [welungad.BesideWarning] * is_just_above, (p, level))
+        return is_just_above
+
+    @unittest.skipUnless(pandas, "pandas is missing")
+    def test_sheets(self):
+        """Whether a sheet whose names are numbers or texts, in any order of its rows and columns, gives the graph and the p-values that it
+        has, or the call is an error."""
+        chance, counts = random.Random(20261203), collections.Counter()
+        for number in range(FORMS):
+            with self.subTest(number):
+                self.hold_sheet(chance, counts)
+        self.assertGreater(min(counts["decided"], counts["refused"]), FORMS // 10)
+
+    def hold_sheet(self, chance, counts):
+        names = chance.choice([["10", "20", "30"], ["1", "2", "3"], ["0", "1", "2"], ["A", "B", "C"], ["low dose", "high dose", "H1"]])
+        edges = {a: {b: Fraction(0) if a == b else Fraction(chance.randrange(0, 6), 10) for b in names} for a in names}
+        p = {name: Fraction(chance.randrange(1, 1000), 10000) for name in names}
+        rows, columns = chance.sample(names, 3), chance.sample(names, 3)
+        text = "".join([",".join(["name", "p", *columns]), "\n",
+                        *(",".join([a, f"{float(p[a]):.4f}", *(f"{float(edges[a][b]):.1f}" for b in columns)]) + "\n" for a in rows)])
+        sheet = pandas.read_csv(io.StringIO(text), index_col=chance.choice([0, 0, None]))
+        frame = sheet.drop(columns=[it for it in ("p", "name") if it in sheet])
+        try:
+            graph = welungad.Graph(["1/2", "1/2", 0], chance.choice([frame, frame.rename(index=str)]), names)
+            decision = graph.test(chance.choice([sheet["p"], sheet["p"].rename(index=str)]))
+        except ERRORS:
+            counts["refused"] += 1
+            return
+        counts["decided"] += 1
+        wanted = welungad.Graph(["1/2", "1/2", 0], edges, names).test(p)
+        self.assertEqual((decision.case, decision.rejected), (wanted.case, wanted.rejected), text)
 
 
 if __name__ == "__main__":

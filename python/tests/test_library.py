@@ -1,4 +1,4 @@
-"""Tests of where the library is, and of whether it is the one that was built."""
+"""Tests of where the library and the program are, and of whether they are those that were proved."""
 import hashlib
 import os
 import shutil
@@ -47,11 +47,18 @@ class Rooms(unittest.TestCase):
             file.write(content)
         return whole
 
+    def stamp(self, path):
+        """Writes the stamp beside a file, which says that it is the proved one."""
+        with open(path, "rb") as file:
+            digest = hashlib.sha256(file.read()).hexdigest()
+        with open(os.path.join(os.path.dirname(path), "stamp"), "w", encoding="utf-8") as file:
+            file.write(f"built a b\nsha256 {os.path.basename(os.path.realpath(path))} {digest}\n")
+
     def put_package(self, path):
         """Copies the package below the folder, without a library and scripts, and returns the folder that it lies in."""
         target = os.path.join(self.room, path)
         shutil.copytree(os.path.dirname(welungad.__file__), os.path.join(target, "welungad"),
-                        ignore=shutil.ignore_patterns("__pycache__", "libwelungad.so", "stamp", "_scripts"))
+                        ignore=shutil.ignore_patterns("__pycache__", "libwelungad.so", "stamp", "reviewer", "REFUSALS.md"))
         return target
 
 
@@ -59,7 +66,7 @@ class Places(Rooms):
     """Whether the library is found where it belongs, and a missing one is named with the places that were tried."""
 
     RUN = "import welungad; welungad.run(['help'])"
-    PLACES = "from welungad import _library; print(*_library.places(), sep='\\n')"
+    PLACES = "from welungad import _library; print(*_library.library_places(), sep='\\n')"
 
     def test_a_named_one_that_is_missing(self):
         folder = self.put_package("x")
@@ -72,7 +79,7 @@ class Places(Rooms):
         if "OSError" not in said:
             self.skipTest("the system's loader finds the library")
         self.assertIn(f"{folder}/welungad/libwelungad.so, {sys.prefix}/lib/libwelungad.so, and those of the system's loader", said)
-        self.assertIn("WELUNGAD_LIBRARY", said)
+        self.assertIn("install Welungad by ./install PREFIX, or let the environment variable WELUNGAD_LIBRARY name it", said)
 
     def test_a_checkout(self):
         folder = self.put_package("top/python")
@@ -86,6 +93,7 @@ class Places(Rooms):
 
     def test_what_is_none(self):
         text = self.put("libwelungad.so", b"no library")
+        self.stamp(text)
         folder = self.put_package("x")
         self.assertIn(f"OSError: {text} cannot be loaded", say(folder, self.RUN, WELUNGAD_LIBRARY=text))
 
@@ -96,6 +104,7 @@ class Places(Rooms):
                             (INTERFACE % 1, "is not Welungad's library")]:
             source, made = self.put("lib.c", (SOURCE + code).encode()), os.path.join(self.room, "libwelungad.so")
             subprocess.run(["cc", "-shared", "-fPIC", "-o", made, source], check=True)
+            self.stamp(made)
             self.assertIn(words, say(folder, self.RUN, WELUNGAD_LIBRARY=made))
 
 
@@ -110,6 +119,12 @@ class Loaded(Rooms):
         made = self.put(path)
         source = self.put("lib.c", (SOURCE + "".join(code)).encode())
         subprocess.run(["cc", "-shared", "-fPIC", "-o", made, source], check=True)
+        return made
+
+    def make_proved(self, path, *code):
+        """Compiles a library with a stamp beside it, and returns its path."""
+        made = self.make(path, *code)
+        self.stamp(made)
         return made
 
     def put_stamp(self, path, library, content=None):
@@ -134,6 +149,10 @@ class Loaded(Rooms):
                     said = say(folder, self.RUN % "", **environment)
                     self.assertIn(f"OSError: {made} is not the file that was built", said)
                     self.assertNotIn("loaded", said)
+                os.remove(os.path.join(self.room, stamp))
+                said = say(folder, self.RUN % "")
+                self.assertIn(f"OSError: {made} has no stamp beside it, and no installation names it: its SHA-256 is ", said)
+                self.assertNotIn("loaded", said)
                 os.remove(made)
 
     def test_a_link_that_names_it_by_its_interface(self):
@@ -154,8 +173,13 @@ class Loaded(Rooms):
         """Whether it is found by its soname, without the link that compilers take, which a system may lack."""
         folder = self.put_package("site-packages")
         for name in ("libwelungad.so.1", "libwelungad.so"):
-            made = self.make(f"{name} alone/{name}", INTERFACE % 1, RUN)
+            made = self.make_proved(f"{name} alone/{name}", INTERFACE % 1, RUN)
             self.assertEqual(say(folder, self.RUN % "", LD_LIBRARY_PATH=os.path.dirname(made)), "0 b''\n")
+            with open(made, "ab") as file:
+                file.write(b"\0")
+            self.assertIn("is not the file that was built", say(folder, self.RUN % "", LD_LIBRARY_PATH=os.path.dirname(made)))
+            os.remove(os.path.join(os.path.dirname(made), "stamp"))
+            self.assertIn("has no stamp beside it", say(folder, self.RUN % "", LD_LIBRARY_PATH=os.path.dirname(made)))
 
     def test_an_installation_that_does_not_name_it(self):
         folder = self.put_package("prefix/share/welungad/python")
@@ -163,11 +187,11 @@ class Loaded(Rooms):
         self.put("prefix/share/welungad/identity", b"release 0\nsha256 welungad 00\n")
         self.assertIn("identity has no line sha256 for libwelungad.so", say(folder, self.RUN % ""))
         os.remove(os.path.join(self.room, "prefix", "share", "welungad", "identity"))
-        self.assertEqual(say(folder, self.RUN % ""), "0 b''\n", made)
+        self.assertIn(f"{made} has no stamp beside it", say(folder, self.RUN % ""))
 
     def test_the_first_place_is_taken(self):
         folder = self.put_package("prefix/share/welungad/python")
-        paths = [self.make(path, INTERFACE % number, RUN) for number, path in
+        paths = [self.make_proved(path, INTERFACE % number, RUN) for number, path in
                  [(2, "prefix/share/welungad/python/welungad/libwelungad.so"), (3, "prefix/lib/libwelungad.so"), (4, "other.so")]]
         self.assertIn("has interface 4", say(folder, self.RUN % "", WELUNGAD_LIBRARY=paths[2]))
         self.assertIn("has interface 2", say(folder, self.RUN % ""))
@@ -175,14 +199,15 @@ class Loaded(Rooms):
         self.assertIn("has interface 3", say(folder, self.RUN % ""))
 
     def test_one_that_comes_later_reads_doubles(self):
+        """Whether doubles are read by the library alone: not before there is one."""
         folder = self.put_package("x")
         reads = "uint8_t welungad_read(const uint64_t *b, uint64_t n, uint64_t *o, uint64_t k) { for (; k; k--) o[k - 1] = k % 2; return 0; }\n"
-        made = self.make("libwelungad.so", INTERFACE % 1, RUN, reads)
+        made = self.make_proved("libwelungad.so", INTERFACE % 1, RUN, reads)
         statement = ("import os, welungad\nfor place in ['/nowhere/lib.so', %r]:\n    os.environ['WELUNGAD_LIBRARY'] = place\n"
-                     "    print(welungad.as_exact(0.3))" % made)
-        self.assertEqual(say(folder, statement), "3/10\n1\n")
-        self.make("libwelungad.so", INTERFACE % 2, RUN, reads)
-        self.assertEqual(say(folder, statement), "3/10\n3/10\n")
+                     "    try:\n        print(welungad.as_exact(0.3))\n    except OSError as error:\n        print(error)" % made)
+        self.assertEqual(say(folder, statement), "WELUNGAD_LIBRARY names /nowhere/lib.so, and there is no such file\n1\n")
+        self.make_proved("libwelungad.so", INTERFACE % 1, RUN)
+        self.assertIn(f"{made} is an older library, which reads no doubles", say(folder, statement))
 
     def test_texts_of_each_length(self):
         folder = self.put_package("x")
@@ -190,7 +215,7 @@ class Loaded(Rooms):
         run = RUN_AS % """size_t length = 0;
           for (size_t k = 0; k < kase_len; k++) length = 10 * length + (kase[k] - '0');
           memset(out, 'a', length < out_len ? length : out_len); *needed = length; return length <= out_len ? 0 : 7;"""
-        made = self.make("libwelungad.so", INTERFACE % 1, run)
+        made = self.make_proved("libwelungad.so", INTERFACE % 1, run)
         statement = ("import welungad\nfor length in [0, 1, 65535, 65536, 65537, 70000, 300000, 2]:\n"
                      "    status, text = welungad.run(['help'], str(length))\n    print(status, text == b'a' * length)")
         self.assertEqual(say(folder, statement, WELUNGAD_LIBRARY=made), "0 True\n" * 8)
@@ -201,21 +226,21 @@ class Loaded(Rooms):
         run = RUN_AS % """static size_t calls = 0;
           if (calls++ < 2) { *needed = 60000 + 10000 * calls; return 7; }
           memcpy(out, "no memory\\n", 10); *needed = 10; return 8;"""
-        made = self.make("libwelungad.so", INTERFACE % 1, run)
+        made = self.make_proved("libwelungad.so", INTERFACE % 1, run)
         self.assertEqual(say(folder, self.RUN % "", WELUNGAD_LIBRARY=made), "8 b'no memory\\n'\n")
-        made = self.make("libwelungad.so", INTERFACE % 1, RUN_AS % "*needed = out_len + 1; return 0;")
+        made = self.make_proved("libwelungad.so", INTERFACE % 1, RUN_AS % "*needed = out_len + 1; return 0;")
         self.assertIn("BadAnswer: the library gives 65536 of 65537 bytes of its text, which is no whole answer",
                       say(folder, self.RUN % "", WELUNGAD_LIBRARY=made))
         # a library that never has room enough
         for needed in ("3", "out_len"):
-            made = self.make("libwelungad.so", INTERFACE % 1, RUN_AS % f"*needed = {needed}; return 7;")
+            made = self.make_proved("libwelungad.so", INTERFACE % 1, RUN_AS % f"*needed = {needed}; return 7;")
             self.assertRegex(say(folder, self.RUN % "", WELUNGAD_LIBRARY=made), "BadAnswer: the library asks for [0-9]+ bytes for its text, and had 65536")
 
 
 class Programs(Rooms):
     """Whether the program is found where it belongs."""
 
-    PLACES = "from welungad import _program; print(*_program.program_places(), sep='\\n')"
+    PLACES = "from welungad import _library; print(*_library.program_places(), sep='\\n')"
 
     def test_places(self):
         folder = self.put_package("prefix/share/welungad/python")
@@ -224,36 +249,46 @@ class Programs(Rooms):
 
     def test_the_search_path(self):
         folder, program = self.put_package("x"), self.put("bin/welungad", b"#!/bin/sh\n")
-        statement = "from welungad import _program; print(_program.program_path())"
+        statement = "from welungad import _library; print(_library.program_path())"
         os.chmod(program, 0o755)
+        self.assertIn(f"{program} has no stamp beside it", say(folder, statement, PATH=os.path.dirname(program)))
+        self.put("share/welungad/identity", f"sha256 welungad {hashlib.sha256(b'#!/bin/sh' + bytes([10])).hexdigest()}\n".encode())
         self.assertEqual(say(folder, statement, PATH=os.path.dirname(program)), f"{program}\n")
         self.assertEqual(say(folder, f"import os; os.chdir({self.room!r}); {statement}", PATH="bin"), f"{program}\n")
         os.chmod(program, 0o644)
         said = say(folder, statement, PATH=os.path.dirname(program))
-        self.assertIn(f"OSError: the program welungad is not found. The places tried: {sys.prefix}/bin/welungad, and those of the search path", said)
+        self.assertRegex(said, f"OSError: the program welungad is not found. The places tried: {sys.prefix}/bin/welungad, .*and those of the search path. "
+                               "Build it by ./welungad help, install Welungad by ./install PREFIX")
 
-    def test_the_one_beside_which_it_was_built(self):
-        folder = self.put_package("site-packages")
-        self.put("site-packages/welungad/stamp", b"sha256 libwelungad.so 00\nprogram /a folder/bin/welungad\n")
-        self.assertEqual(say(folder, self.PLACES).split("\n"), ["/a folder/bin/welungad", f"{sys.prefix}/bin/welungad", ""])
-        self.put("site-packages/welungad/stamp", b"sha256 libwelungad.so 00\nprogram /\xff/welungad\n")
-        self.assertIn("b'/\\xff/welungad'", say(folder, "import os; from welungad import _program; print(*map(os.fsencode, _program.program_places()))"))
+    def test_the_one_of_the_wheel(self):
+        """Whether the program that pip has put into another folder is found by its list of files, and held to the stamp in the package."""
+        folder, program = self.put_package("lib/site-packages"), self.put("bin/welungad", b"#!/bin/sh\necho proved\n")
+        os.chmod(program, 0o755)
+        self.put("lib/site-packages/welungad-0.2.0.dist-info/RECORD", b"../../bin/welungad,sha256=x,9\nwelungad/stamp,sha256=y,1\n")
+        self.assertEqual(say(folder, self.PLACES).split("\n")[0], program)
+        run = [sys.executable, "-m", "welungad", "test"]
+        kept = {name: value for name, value in os.environ.items() if not name.startswith("WELUNGAD")}
+        for content, wanted in [(b"#!/bin/sh\necho proved\n", (0, "proved\n")), (b"another", (125, ""))]:
+            self.put("lib/site-packages/welungad/stamp", f"sha256 welungad {hashlib.sha256(content).hexdigest()}\n".encode())
+            done = subprocess.run(run, env={**kept, "PYTHONPATH": folder}, cwd="/", stdout=subprocess.PIPE, stderr=subprocess.PIPE, check=False)
+            self.assertEqual((done.returncode, done.stdout.decode()), wanted)
+        self.assertIn(b"is not the file that was built", done.stderr)
 
 
 class Stamps(Rooms):
     """Whether a library that is not what its stamp names is refused."""
 
-    def stamp(self, content, name="libwelungad.so"):
+    def stamp_of(self, content, name="libwelungad.so"):
         return f"built a b\nkit x\nsha256 libwelungad.a 00\nsha256 {name} {hashlib.sha256(content).hexdigest()}\n".encode()
 
     def test_the_one_that_was_built(self):
         library = self.put("lib/libwelungad.so", b"abc")
-        self.put("lib/stamp", self.stamp(b"abc"))
+        self.put("lib/stamp", self.stamp_of(b"abc"))
         _library.hold(library)
 
     def test_a_link_to_it(self):
         self.put("lib/libwelungad.so.0.1.0", b"abc")
-        self.put("lib/stamp", self.stamp(b"abc", "libwelungad.so.0.1.0"))
+        self.put("lib/stamp", self.stamp_of(b"abc", "libwelungad.so.0.1.0"))
         link = os.path.join(self.room, "lib", "libwelungad.so")
         os.symlink("libwelungad.so.0.1.0", link)
         _library.hold(link)
@@ -263,7 +298,7 @@ class Stamps(Rooms):
 
     def test_another_one(self):
         library = self.put("lib/libwelungad.so", b"abd")
-        self.put("lib/stamp", self.stamp(b"abc"))
+        self.put("lib/stamp", self.stamp_of(b"abc"))
         with self.assertRaisesRegex(OSError, "libwelungad.so is not the file that was built: its SHA-256 is "):
             _library.hold(library)
 
@@ -275,19 +310,15 @@ class Stamps(Rooms):
                 _library.hold(library)
 
     def test_no_stamp(self):
-        _library.hold(self.put("lib/libwelungad.so", b"abc"))
-        library = self.put("c/out/libwelungad.so", b"abc")
-        self.put("c/build.sh")
-        _library.hold(library)  # somebody else's
-        self.put("c/welungad.h")
-        with self.assertRaisesRegex(OSError, "has no stamp beside it: run c/build.sh"):
-            _library.hold(library)
+        for place in ("lib/libwelungad.so", "c/out/libwelungad.so", "bin/welungad"):
+            with self.subTest(place), self.assertRaisesRegex(OSError, "has no stamp beside it.*c/build.sh or ./welungad help|is not the file that was built"):
+                _library.hold(self.put(place, b"abc"))
 
     def test_an_installation(self):
         library = self.put("prefix/lib/libwelungad.so", b"abc")
-        self.put("prefix/share/welungad/identity", self.stamp(b"abc"))
+        self.put("prefix/share/welungad/identity", self.stamp_of(b"abc"))
         _library.hold(library)
-        self.put("prefix/share/welungad/identity", self.stamp(b"abd"))
+        self.put("prefix/share/welungad/identity", self.stamp_of(b"abd"))
         with self.assertRaisesRegex(OSError, "is not the file that was built"):
             _library.hold(library)
 

@@ -8,7 +8,7 @@ from unittest import mock
 
 import test_library
 import welungad
-from welungad import _graph, _library, _trials
+from welungad import _calls, _graph, _trials
 
 THIRD = Fraction(1, 3)
 
@@ -23,7 +23,7 @@ def row_by_row(graph, rows, **how):
         return graph.test_many(rows, **how)
 
 
-@unittest.skipUnless(_library.has_rows(), "the library is an older one")
+@unittest.skipUnless(_calls.has_rows(), "the library is an older one")
 class Blocks(unittest.TestCase):
     """Whether the call for a block of rows decides as `test` does."""
 
@@ -39,7 +39,7 @@ class Blocks(unittest.TestCase):
 
     def test_how_often_it_calls(self):
         rows = [[0.001, 0.9, 0.9]] * 1025
-        with mock.patch.object(_trials, "test_rows", wraps=_library.test_rows) as call:
+        with mock.patch.object(_trials, "test_rows", wraps=_calls.test_rows) as call:
             self.assertEqual(holm().test_many(rows).counts(), {"H1": 1025, "H2": 0, "H3": 0})
             self.assertEqual([it.args[2] for it in call.call_args_list], [512, 512, 1])
             call.reset_mock()
@@ -74,7 +74,7 @@ class Blocks(unittest.TestCase):
 
     def test_out_of_memory_in_a_row(self):
         graph = holm()
-        with mock.patch.object(_graph, "run", lambda words, *given: (8, b"no memory\n") if words[0] == "test" else _library.run(words, *given)):
+        with mock.patch.object(_graph, "run", lambda words, *given: (8, b"no memory\n") if words[0] == "test" else _calls.run(words, *given)):
             with self.assertRaises(welungad.Refused) as caught:
                 graph.test_many([["0.1", "0.1", "0.1"]])
         self.assertEqual((caught.exception.status, caught.exception.line), (welungad.NO_MEMORY, "no memory"))
@@ -90,19 +90,21 @@ class Blocks(unittest.TestCase):
 
 
 class Older(test_library.Rooms):
-    """Whether a library without the calls on numbers leaves them to the package, and another one does not."""
+    """Whether a library without the calls on numbers reads no doubles, and what answers otherwise is refused."""
 
     @unittest.skipUnless(shutil.which("cc"), "cc is missing")
     def test_an_older_library(self):
         folder, made = self.put_package("x"), self.room + "/libwelungad.so"
         code = test_library.SOURCE + test_library.INTERFACE % 1 + test_library.RUN
         reads = "uint8_t welungad_read(const uint64_t *b, uint64_t n, uint64_t *o, uint64_t k) { for (; k; k--) o[k - 1] = k % 2; return n == 9; }\n"
-        statement = "import welungad; from welungad import _library; print(welungad.as_exact(0.3), _library.has_rows())"
-        for more, wanted in [("", "3/10 False\n"), (reads, "1 False\n"), (reads.replace("k % 2", "0"), "welungad._refusals.BadAnswer: what answered has no reading of 0.3\n"),
+        statement = "import welungad; from welungad import _calls; print(_calls.has_rows(), welungad.as_exact(0.3))"
+        for more, wanted in [("", f"OSError: {made} is an older library, which reads no doubles: give fractions, decimals or texts, or install a later one\n"),
+                             (reads, "False 1\n"), (reads.replace("k % 2", "0"), "welungad._refusals.BadAnswer: what answered has no reading of 0.3\n"),
                              (reads.replace("n == 9", "11"), "welungad._refusals.BadAnswer: the call that reads doubles ended with status 11\n")]:
             subprocess.run(["cc", "-shared", "-fPIC", "-o", made, self.put("lib.c", (code + more).encode())], check=True)
-            self.assertTrue(test_library.say(folder, statement, WELUNGAD_LIBRARY=made).endswith(wanted), more)
-        self.assertEqual(test_library.say(folder, "import welungad; print(welungad.as_exact(0.3))", WELUNGAD_LIBRARY="/nowhere/lib.so"), "3/10\n")
+            self.stamp(made)
+            said = test_library.say(folder, statement, WELUNGAD_LIBRARY=made)
+            self.assertTrue(said.endswith(wanted), (more, said))
 
 
 if __name__ == "__main__":

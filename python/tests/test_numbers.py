@@ -10,8 +10,9 @@ import warnings
 from decimal import Decimal
 from fractions import Fraction
 
+import places
 import welungad
-from welungad import _beside, _library, _numbers
+from welungad import _beside, _calls, _numbers
 
 try:
     import numpy
@@ -139,33 +140,37 @@ def doubles_of_each_kind(chance, count):
 
 
 class Call(unittest.TestCase):
-    """Whether the call of the library reads doubles as the package does."""
+    """Whether the call of the library reads doubles by the rule."""
 
-    @unittest.skipIf(_library.readings([0.5]) is None, "the library is an older one")
-    def test_as_the_package(self):
-        doubles = [*doubles_of_each_kind(random.Random(6), 24000)]
-        self.assertGreater(len(doubles), 100000)
-        found = _library.readings(doubles)
+    def test_by_the_definition(self):
+        doubles = [*doubles_of_each_kind(random.Random(6), 600)]
+        self.assertGreater(len(doubles), 5000)
+        found = _calls.readings(doubles)
         self.assertEqual(len(found), len(doubles))
         for double, (n, d) in zip(doubles, found):
-            wanted = _numbers.own_reading(double)
-            self.assertEqual((n, d), (wanted.numerator, wanted.denominator), double)
+            near = Fraction(double).limit_denominator(10000).denominator
+            self.assertEqual(Fraction(n, d), by_definition(bits_of(double), [near]), double)
 
-    @unittest.skipIf(_library.readings([0.5]) is None, "the library is an older one")
     def test_what_has_no_reading(self):
         none = [-5e-324, -0.5, 1 + 2**-52, 2.0, float("inf"), -float("inf"), float("nan")]
-        self.assertEqual(_library.readings(none), [(0, 0)] * 7)
-        self.assertEqual(_library.readings([-0.0, 0.0, 1.0]), [(0, 1), (0, 1), (1, 1)])
-        self.assertEqual(_library.readings([]), [])
-
-    def test_own_readings_of_the_table(self):
-        for bits, printed, reading, part in rows():
-            if part != "refused":
-                self.assertEqual(_numbers.own_reading(double_of(bits)), Fraction(reading), printed)
+        self.assertEqual(_calls.readings(none), [(0, 0)] * 7)
+        self.assertEqual(_calls.readings([-0.0, 0.0, 1.0]), [(0, 1), (0, 1), (1, 1)])
+        self.assertEqual(_calls.readings([]), [])
 
 
 class BesideFractions(unittest.TestCase):
     """Whether doubles beside small fractions are known, and a row is read to its total."""
+
+    def test_the_table(self):
+        """Whether what is beside a fraction is what the table says, which R reads too."""
+        count = 0
+        for (row,) in places.table("beside.txt"):
+            digits, fraction, units = row.split()
+            found = _beside.beside(double_of(int(digits, 16)))
+            with self.subTest(row):
+                self.assertEqual(found, None if fraction == "none" else (Fraction(fraction), int(units)))
+            count += 1
+        self.assertGreater(count, 12)
 
     def test_beside(self):
         for double, fraction, units in [(0.1 + 0.2, "3/10", 1), (0.05 / 7, "1/140", 1), (1 - 0.9, "1/10", -2), (0.1 + 0.05, "3/20", 1)]:

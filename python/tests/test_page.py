@@ -1,4 +1,5 @@
-"""Tests of the page about a decision: what it has, with the user's labels, how it is written, and where its scripts are."""
+"""Tests of the page about a decision: what it has, with the user's labels, how it is written, and where the script that it needs is."""
+import dataclasses
 import html.parser
 import inspect
 import os
@@ -13,7 +14,6 @@ from fractions import Fraction
 import places
 import test_library
 import welungad
-from welungad import _page
 
 HOSTILE = ("</th></table><script>alert(1)</script>", "\"q\" & 'r' &amp;", "Dosis \u00fc \u2265 \U0001f4a7", "a long label " + 5000 * "w<", "two\nlines", "\udcff")
 
@@ -58,7 +58,8 @@ class Pages(unittest.TestCase):
         self.assertEqual(read.all("h1"), ["Graphical test of 2 hypotheses"])
         self.assertEqual([it for it in read.all("pre") if it == decision.report], [decision.report])
         self.assertEqual(page.html.count("<figure>"), 3)
-        self.assertIn("<strong>low dose <small>(low_dose)</small> and high dose <small>(high_dose)</small></strong>", page.html)
+        self.assertIn("<strong>low dose and high dose</strong>", page.html)
+        self.assertIn('<tr><th scope="row">low dose</th><td><code>low_dose</code></td></tr>', page.html)
         self.assertIn(decision.case, read.all("pre") + [it + "\n" for it in read.all("pre")])
         self.assertIn("SHA-256 digest of the C library", page.html)
         self.assertEqual(graph.report([0.01, 0.02]), page)
@@ -76,7 +77,7 @@ class Pages(unittest.TestCase):
 
     def test_stages(self):
         graph = pair(("PFS <1>", "OS"))
-        stages = graph.stages({"PFS <1>": [0.005, 0.02], "OS": [0.005, 0.02]}, [("PFS <1>", 1, 0.002), ("OS", 1, 0.5)])
+        stages = graph.stages({"PFS <1>": [0.005, 0.02], "OS": [0.005, 0.02]}, [("PFS <1>", 1, 0.002), ("OS", 1, 0.5)], at=1)
         read = Reader(graph.report(stages).html)
         self.assertEqual(read.all("h1"), ["Staged test of 2 hypotheses"])
         self.assertIn(stages.report, read.all("pre"))
@@ -95,7 +96,7 @@ class Pages(unittest.TestCase):
         read = Reader(page.html)
         self.assertEqual(read.all("h1"), [HOSTILE[0] + HOSTILE[5]])
         for label in HOSTILE:
-            self.assertTrue(any(text.startswith(label) for text in read.all("th")), label[:40])
+            self.assertTrue(any(text.endswith(f": {label}") for text in read.all("th")), label[:40])
         self.assertNotIn("<script", page.html)
 
     def test_what_is_not_of_this_graph(self):
@@ -107,23 +108,28 @@ class Pages(unittest.TestCase):
             graph.report(welungad.test(places.example("holm.txt")))
         # the program's names are H1 and H2 in both graphs
         one, other = pair(("α", "β")), pair(("β", "α"))
-        for decided in [one.test([0.01, 0.9]), one.stages([[0.025], [0.025]], [("α", 1, 0.01)])]:
-            self.assertIn("<strong>α <small>(H1)</small></strong>", one.report(decided).html)
+        for decided in [one.test([0.01, 0.9]), one.stages([[0.025], [0.025]], [("α", 1, 0.01)], at=1)]:
+            self.assertIn("<strong>α</strong>", one.report(decided).html)
             with self.assertRaisesRegex(ValueError, "^decided is not a decision of this graph$"):
                 other.report(decided)
         decision = graph.test([0.01, 0.02])
         for wrong in [dict(alpha="0.025"), dict(priority="first")]:
             with self.assertRaisesRegex(TypeError, "^alpha and priority are given with p-values"):
                 graph.report(decision, **wrong)
-        with self.assertRaisesRegex(TypeError, "^title is a text, and not of type int$"):
-            graph.report(decision, title=1)
+        for name in ("title", "protocol", "data_cut", "author"):
+            with self.assertRaisesRegex(TypeError, f"^{name} is a text, and not of type int$"):
+                graph.report(decision, **{name: 1})
         with self.assertRaisesRegex(TypeError, "^file is the path of a file, and not of type bytes$"):
             graph.report(decision, b"report.html")
         with self.assertRaises(welungad.Refused):
             graph.report([0.01, 2])
-        object.__setattr__(decision, "report", decision.report.replace("1/50", "1/49"))
+        for change in [dict(rejected=()), dict(alpha=Fraction(1, 20)), dict(report=decision.report.replace("1/50", "1/49"))]:
+            with self.subTest(change), self.assertRaisesRegex(ValueError, "^decided was changed: it is not what its report says$"):
+                graph.report(dataclasses.replace(decision, **change))
+        other = graph.test([0.01, 0.03])
+        changed = dataclasses.replace(other, report=other.report, case=decision.case)
         with self.assertRaisesRegex(welungad.BadAnswer, "^there is no page: the program decides this case otherwise"):
-            graph.report(decision)
+            graph.report(changed)
 
     def test_files(self):
         graph = pair()
@@ -156,37 +162,28 @@ class Pages(unittest.TestCase):
 
 
 class Scripts(test_library.Rooms):
-    """Whether the scripts are found where they belong, and nobody else sees them."""
+    """Whether the reviewers' script that a page needs is found where it belongs, and nobody else sees it."""
 
-    PLACES = "from welungad import _page; print(*_page.tool_places(), sep='\\n')"
+    PATH = "from welungad import _reviewer; print(_reviewer.script_path('check_evidence'), _reviewer.script_words('check_evidence'))"
 
     def test_places(self):
-        self.assertEqual(test_library.say(self.put_package("a/share/welungad/python"), self.PLACES).split("\n")[:2],
-                         [f"{self.room}/a/share/welungad/python/welungad/_scripts/tools", f"{self.room}/a/share/welungad/tools"])
-        folder = self.put_package("top/python")
-        self.put("top/c/welungad.h")
-        os.makedirs(os.path.join(self.room, "top", "crates"))
-        self.assertEqual(test_library.say(folder, self.PLACES).split("\n")[1], f"{self.room}/top/tools")
+        folder = self.put_package("a/share/welungad/python")
+        script = self.put("a/share/welungad/tools/check_evidence.py")
+        self.assertEqual(test_library.say(folder, self.PATH), f"{script} python3 tools/check_evidence.py\n")
+        own = self.put("a/share/welungad/python/welungad/reviewer/check_evidence.py")
+        self.assertEqual(test_library.say(folder, self.PATH), f"{own} python3 -m welungad.reviewer.check_evidence\n")
 
     def test_none(self):
-        folder = self.put_package("x")
-        said = test_library.say(folder, "from welungad import _page; _page.tools()")
-        if "OSError" not in said:
-            self.skipTest("the package or Python's own prefix has the scripts")
-        self.assertIn(f"OSError: report.py, which makes the page, is not found. The places tried: {folder}/welungad/_scripts/tools, ", said)
+        folder = self.put_package("x/python")
+        self.assertIn(f"OSError: check_evidence.py, which a page needs, is not found: there is no {self.room}/x/tools/check_evidence.py",
+                      test_library.say(folder, self.PATH))
 
-    def test_one_that_is_missing(self):
-        folder = self.put_package("x")
-        self.put("x/welungad/_scripts/tools/report.py", b"import draw\n")
-        self.assertIn("No such file or directory: '" + f"{folder}/welungad/_scripts/tools/draw.py'",
-                      test_library.say(folder, "from welungad import _page; _page._report()"))
-
-    def test_other_modules_of_these_names(self):
-        code = ("import sys, types\nsys.modules['draw'] = types.ModuleType('draw')\nimport welungad\n"
-                "graph = welungad.Graph([1], [[0]])\nprint('<svg' in graph.report([0.5]).html, {'report', 'findings', 'reports'} & set(sys.modules))")
+    def test_other_modules_of_its_name(self):
+        code = ("import sys, types\nsys.modules['check_evidence'] = types.ModuleType('check_evidence')\nimport welungad\n"
+                "graph = welungad.Graph([1], [[0]])\nprint('<svg' in graph.report([0.5]).html, vars(sys.modules['check_evidence']).get('case_of'))")
         done = subprocess.run([sys.executable, "-c", code], env={**os.environ, "PYTHONPATH": os.path.dirname(os.path.dirname(welungad.__file__))},
                               cwd="/", stdout=subprocess.PIPE, check=True)
-        self.assertEqual(done.stdout, b"True set()\n")
+        self.assertEqual(done.stdout, b"True None\n")
 
     @unittest.skipUnless(hasattr(sys, "get_int_max_str_digits"), "this Python has no limit of digits")
     def test_the_interpreter_stays_as_it_is(self):
@@ -198,9 +195,32 @@ class Scripts(test_library.Rooms):
         self.assertEqual(done.stdout, b"True True\n")
 
     @unittest.skipUnless(os.environ.get("WELUNGAD_INSTALLED"), "no environment that it is installed in")
-    def test_the_installed_ones(self):
-        self.assertEqual(_page.tools(), os.path.join(os.path.dirname(os.path.abspath(welungad.__file__)), "_scripts", "tools"))
-        self.assertTrue(os.path.isfile(os.path.join(_page.tools(), "..", "docs", "REFUSALS.md")))
+    def test_each_command_of_a_page(self):
+        """Whether each command of a page runs in the environment that the package is installed in, and says what the page says."""
+        graph = pair(("A", "B"))
+        decision = graph.test([0.01, 0.9])
+        page = graph.report(decision)
+        blocks = [it for it in Reader(page.html).all("pre") if it.startswith(("welungad ", "python3 "))]
+        self.put("trial.txt", decision.case.encode())
+        page.save(os.path.join(self.room, "PAGE.html"))
+        path = os.path.join(os.environ["WELUNGAD_INSTALLED"], "bin")
+        kept = {name: value for name, value in os.environ.items() if not name.startswith("WELUNGAD")}
+        kept.pop("PYTHONPATH", None)
+        said = ""
+        for line in "\n".join(blocks).split("\n"):
+            done = subprocess.run(["sh", "-c", line], cwd=self.room, env={**kept, "PATH": f"{path}:{os.environ['PATH']}"}, stdout=subprocess.PIPE,
+                                  stderr=subprocess.PIPE, check=False)
+            self.assertEqual((done.returncode, done.stderr), (0, b""), line)
+            said += done.stdout.decode()
+        self.assertEqual(said.count("yes\nlisted A\nkept B\nend\n"), 2)
+        self.assertIn("\nrejected A\n", said)
+        with open(os.path.join(self.room, "report.txt"), encoding="ascii") as file:
+            self.assertEqual(file.read(), decision.report)
+        self.put("PAGE.html", graph.report(decision).html.encode())
+        for words, first in (["reviewer.check_page", "PAGE.html"], "yes"), (["qualify", "--out", self.room], "Qualification of Welungad: passed"):
+            done = subprocess.run([os.path.join(path, "python3"), "-m", f"welungad.{words[0]}", *words[1:]], cwd=self.room, env=kept,
+                                  stdout=subprocess.PIPE, stderr=subprocess.PIPE, check=False)
+            self.assertEqual((done.returncode, done.stdout.decode().split("\n")[0], done.stderr), (0, first, b""), done.stdout[-2000:])
 
 
 if __name__ == "__main__":

@@ -2,10 +2,10 @@
 import unittest
 
 import random_calls
-from welungad import _program
+from welungad import _library
 
 try:
-    PROGRAM = _program.program_path()
+    PROGRAM = _library.program_path()
 except OSError:
     PROGRAM = ""
 

@@ -12,26 +12,30 @@ from fractions import Fraction
 from unittest import mock
 
 import places
+import test_library
 import welungad
-from welungad import _program, _study
+from welungad import _files, _library
+
+try:
+    import pandas
+except ImportError:
+    pandas = None
 
 CASE = places.example("study.txt")
 OTHER_ORDER = CASE.replace("hypotheses H1 H2", "hypotheses H2 H1").replace("spend H1 1/2 1/2\nspend H2 1/2 1/2", "spend H2 1/2 1/2\nspend H1 1/2 1/2")
 
 try:
-    PROGRAM = _program.program_path()
+    PROGRAM = _library.program_path()
 except OSError:
     PROGRAM = ""
 
 
-class Rooms(unittest.TestCase):
+class Rooms(test_library.Rooms):
     """Tests with a folder of their own, and with the program that the environment names."""
 
     def setUp(self):
-        room = tempfile.TemporaryDirectory()
-        self.addCleanup(room.cleanup)
-        self.room = room.name
-        self.store = os.path.join(room.name, "looks.db")
+        super().setUp()
+        self.store = os.path.join(self.room, "looks.db")
 
     def program(self, text):
         """Writes a program of the shell, which the environment names from then on."""
@@ -39,6 +43,7 @@ class Rooms(unittest.TestCase):
         with open(path, "w", encoding="utf-8") as file:
             file.write("#!/bin/sh\n" + text)
         os.chmod(path, 0o755)
+        self.stamp(path)
         patch = mock.patch.dict(os.environ, WELUNGAD=path)
         patch.start()
         self.addCleanup(patch.stop)
@@ -54,7 +59,7 @@ class Studies(Rooms):
         self.assertEqual((study.names, repr(study)), (("H1", "H2"), f"<Study of H1, H2 in {self.store!r}>"))
         self.assertEqual(study.look("H1", 1, "0.02"), welungad.Look("H1", 1, Fraction(1, 50), ()))
         again = welungad.Study(CASE.encode(), self.store)
-        replies = again.looks([("H2", 1, 0.03), ("H1", 1, 0.01), ("H1", 2, 0.01), ("H1", 3, 0.01), ("H2", 2, 0.02)])
+        replies = again.looks([("H2", 1, 0.03), ("H1", 1, 0.01), ("H1", 2, 0.01), ("H1", 3, 0.01), ("H2", 2, 0.02)], refused="keep")
         self.assertEqual(replies[1:4], (welungad.RefusedLook("H1", 1, "known"),
                                         welungad.Look("H1", 2, Fraction(1, 100), (welungad.Settled("H1", 2, Fraction(1, 2)),)),
                                         welungad.RefusedLook("H1", 3, "stage")))
@@ -74,12 +79,83 @@ class Studies(Rooms):
         found = study.look(Endpoint.OS, 1, "0.02")
         self.assertEqual((found, type(found.name)), (welungad.Look("H1", 1, Fraction(1, 50), ()), str))
         self.assertEqual(study.look(Shown("H1"), 2, "0.03"), welungad.Look("H1", 2, Fraction(3, 100), ()))
-        self.assertEqual(repr(study.look(Shown("H1"), 2, "0.03")), "RefusedLook(name='H1', stage=2, reason='known')")
+        self.assertEqual(repr(study.look(Shown("H1"), 2, "0.03", refused="keep")), "RefusedLook(name='H1', stage=2, reason='known')")
 
     def test_a_look_out_of_range(self):
         study = welungad.Study(CASE, self.store)
-        self.assertEqual(study.look("H2", 2, 2), welungad.RefusedLook("H2", 2, "range"))
+        self.assertEqual(study.look("H2", 2, 2, refused="keep"), welungad.RefusedLook("H2", 2, "range"))
         self.assertEqual(study.show(), welungad.Shown(0, ()))
+
+    def test_looks_that_are_not_taken(self):
+        """Whether a look that the study does not take is an error, which says why, and none of the call is taken."""
+        study = welungad.Study(CASE, self.store)
+        study.look("H1", 1, "0.02")
+        for look, cause in [(("H1", 1, "0.03"), "the hypothesis has a p-value at this stage already"), (("H2", 9, 0.1), "its stage does not exist"),
+                            (("H2", 1, 15), "its p-value is not from 0 to 1")]:
+            with self.subTest(look), self.assertRaisesRegex(welungad.RefusedLooks, f"^look 1, '{look[0]}' at stage {look[1]}, is not taken: {cause}. None of this"):
+                study.look(*look)
+        with self.assertRaisesRegex(welungad.RefusedLooks, "^look 2, .*; look 3, .*. None of this call is taken; with refused='keep' the others are$") as caught:
+            study.looks([("H2", 1, 0.5), ("H1", 1, 0.02), ("H1", 3, 0.1)])
+        self.assertEqual([type(it) for it in caught.exception.replies], [welungad.Look, welungad.RefusedLook, welungad.RefusedLook])
+        self.assertEqual(study.show().looks, 1)
+        with self.assertRaisesRegex(ValueError, "^refused is 'raise' or 'keep', and not 'no'$"):
+            study.look("H1", 2, 0.1, refused="no")
+
+    def test_a_store_that_is_lost(self):
+        """Whether a store that is lost, or an older copy of it, is an error, and nothing begins anew."""
+        study = welungad.Study(CASE, self.store)
+        study.look("H1", 1, "0.02")
+        older = shutil.copyfile(self.store, self.store + " older")
+        study.look("H1", 2, "0.02")
+        with open(self.store + ".kept", encoding="ascii") as file:
+            self.assertEqual(file.read(), "2\n")
+        os.replace(older, self.store)
+        for call in [lambda: study.look("H2", 1, 0.1), study.show]:
+            with self.assertRaisesRegex(ValueError, "looks.db has 1 looks, and 2 were kept in it: it is an older copy$"):
+                call()
+        os.unlink(self.store)
+        for call in [study.show, lambda: study.look("H2", 1, 0.1), lambda: welungad.Study(CASE, self.store)]:
+            with self.assertRaisesRegex(ValueError, "looks.db is lost: it is not there, and .*looks.db.case is"):
+                call()
+        os.unlink(self.store + ".kept")
+        with self.assertRaisesRegex(ValueError, "looks.db is lost"):
+            study.show()
+        os.unlink(self.store + ".case")
+        self.assertEqual(study.show(), welungad.Shown(0, ()))
+
+    def test_a_store_of_an_older_release(self):
+        """Whether a store without the number of its looks is opened, and gets it."""
+        study = welungad.Study(CASE, self.store)
+        study.look("H1", 1, "0.02")
+        os.unlink(self.store + ".kept")
+        self.assertEqual(study.show().looks, 1)
+        with open(self.store + ".kept", encoding="ascii") as file:
+            self.assertEqual(file.read(), "1\n")
+        with open(self.store + ".kept", "w", encoding="ascii") as file:
+            file.write("x")
+        with self.assertRaisesRegex(ValueError, "looks.db.kept has 'x', and not how many looks were kept$"):
+            study.show()
+
+    def test_the_study_of_a_graph(self):
+        """Whether a graph makes a study with its labels, whose looks may be in a frame, and no other labels open it."""
+        graph = welungad.Graph({"low dose": 0.5, "high dose": 0.5}, [[0, 1], [1, 0]])
+        levels = {"low dose": [0.01, 0.015], "high dose": [0.01, 0.015]}
+        study = graph.study(levels, self.store, alpha=0.05, at=0.5)
+        self.assertEqual(study.names, ("low dose", "high dose"))
+        looks = [("low dose", 1, 0.01), ("high dose", 2, 0.5)]
+        if pandas:
+            looks = pandas.DataFrame(looks, columns=["hypothesis", "stage", "p"])[["p", "stage", "hypothesis"]]
+        replies = study.looks(looks)
+        self.assertEqual(replies, (welungad.Look("low dose", 1, Fraction(1, 100), (welungad.Settled("low dose", 1, Fraction(1, 2)),)),
+                                   welungad.Look("high dose", 2, Fraction(1, 2), ())))
+        self.assertEqual(graph.study(levels, self.store, alpha=0.05, at="1/2").show(), welungad.Shown(2, ("low dose",)))
+        with open(self.store + ".labels", "rb") as file:
+            self.assertEqual(file.read(), b"low dose\0high dose\0")
+        other = welungad.Graph([0.5, 0.5], [[0, 1], [1, 0]], names=["low  dose", "high dose"])
+        with self.assertRaisesRegex(ValueError, "was made for the hypotheses 'low dose', 'high dose'$"):
+            other.study({"low  dose": [0.01, 0.015], "high dose": [0.01, 0.015]}, self.store, alpha=0.05, at=0.5)
+        with self.assertRaisesRegex(ValueError, "^at is missing"):
+            graph.study(levels, self.store, alpha=0.05)
 
     def test_the_file_alone_holds_the_looks_of_a_run_that_ended(self):
         welungad.Study(CASE, self.store).look("H1", 1, "0.02")
@@ -91,7 +167,7 @@ class Studies(Rooms):
         welungad.Study(CASE, self.store).show()
         with open(self.store + ".case", encoding="ascii") as file:
             self.assertEqual(file.read(), welungad.canon(CASE))
-        self.assertEqual(set(os.listdir(self.room)) - {"looks.db-wal"}, {"looks.db", "looks.db.case"})
+        self.assertEqual(set(os.listdir(self.room)) - {"looks.db-wal"}, {"looks.db", "looks.db.case", "looks.db.kept"})
         umask = os.umask(0)
         os.umask(umask)
         self.assertEqual(stat.S_IMODE(os.stat(self.store + ".case").st_mode), 0o666 & ~umask)
@@ -180,7 +256,7 @@ class Studies(Rooms):
             os.mkdir(os.path.join(self.room, f"other {name}"))
             os.chdir(os.path.join(self.room, f"other {name}"))
             self.assertEqual(study.show().looks, 1)
-            self.assertEqual(study.look("H1", 1, "0.02"), welungad.RefusedLook("H1", 1, "known"))
+            self.assertEqual(study.look("H1", 1, "0.02", refused="keep"), welungad.RefusedLook("H1", 1, "known"))
             self.assertEqual(os.listdir("."), [])
             self.assertEqual(welungad.Study(CASE, os.path.join("..", name)).show().looks, 1)
 
@@ -200,13 +276,13 @@ class Files(Rooms):
 
     def test_a_full_disk(self):
         with mock.patch.object(os, "fsync", side_effect=OSError(errno.ENOSPC, "No space left on device")), self.assertRaises(OSError):
-            _study._write_new(self.store, b"alpha 1/40\n")
+            _files.write_new(self.store, b"alpha 1/40\n")
         self.assertEqual(os.listdir(self.room), [])
 
     def test_a_file_system_without_links(self):
         with mock.patch.object(os, "link", side_effect=OSError(errno.EPERM, "Operation not permitted")):
             for text in [b"alpha 1/40\n", b"alpha 1/20\n"]:
-                _study._write_new(self.store, text)
+                _files.write_new(self.store, text)
         with open(self.store, "rb") as file:
             self.assertEqual(file.read(), b"alpha 1/40\n")
         self.assertEqual(os.listdir(self.room), ["looks.db"])
@@ -217,9 +293,12 @@ class Programs(Rooms):
 
     def test_other_programs(self):
         for path in ["/bin/true", "/bin/false", "/bin/cat", "/bin/echo"]:
-            with self.subTest(path), mock.patch.dict(os.environ, WELUNGAD=path), self.assertRaises(welungad.BadAnswer):
+            with self.subTest(path), mock.patch.dict(os.environ, WELUNGAD=path), self.assertRaisesRegex(OSError, "has no stamp beside it"):
                 welungad.Study(CASE, self.store)
-        self.assertEqual(os.listdir(self.room), [])
+            self.program(f'exec {path} "$@"')
+            with self.subTest(path), self.assertRaises(welungad.BadAnswer):
+                welungad.Study(CASE, self.store)
+        self.assertEqual(sorted(os.listdir(self.room)), ["program", "stamp"])
 
     def test_no_program(self):
         for path in ["/nowhere/welungad", self.room, "/etc/passwd"]:
@@ -228,6 +307,7 @@ class Programs(Rooms):
         self.program("")
         with open(os.environ["WELUNGAD"], "w", encoding="ascii") as file:
             file.write("no program")
+        self.stamp(os.environ["WELUNGAD"])
         with self.assertRaisesRegex(OSError, "cannot be started"):
             welungad.Study(CASE, self.store)
 

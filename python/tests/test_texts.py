@@ -11,7 +11,7 @@ from unittest import mock
 import acceptance_rows
 import welungad
 from places import example, needs_rows
-from welungad import _cases
+from welungad import _commands
 
 # The one status of a table that no call in memory has: a source had a fault.
 READ_FAULT = 6
@@ -23,6 +23,12 @@ def form_of(words):
         if word.startswith("--form"):
             return word[7:] or words[number + 1]
     return "text"
+
+
+def alpha_of(words):
+    """Returns the value of --alpha among the words of a call, if there is one."""
+    joined = " ".join(words).replace("=", " ").split()
+    return dict(zip(joined, joined[1:])).get("--alpha")
 
 
 def lines_of(text):
@@ -71,7 +77,7 @@ class Rows(unittest.TestCase):
                     form = form_of(row.words)
                     words = ["canon", *(["--form", form] if form != "text" else []), *(["--alpha", "0.05"] if form == "csv" else [])]
                     canonical = welungad.run(words, row.case)[1].decode()
-                    self.assertEqual(_cases.names_in(row.case, form), tuple(canonical.split("\n")[1].split(" ")[1:]))
+                    self.assertEqual(_commands._names_of(row.case, form, alpha_of(row.words)), tuple(canonical.split("\n")[1].split(" ")[1:]))
                     count += 1
         self.assertGreater(count, 200)
 

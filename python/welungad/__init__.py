@@ -20,22 +20,23 @@ loader finds.
 
 Calls from several threads run side by side. A call that has begun cannot be stopped.
 """
-from ._beside import BesideWarning, as_exact
+from ._beside import BesideWarning, ZeroWarning, as_exact
 from ._commands import Level, bounds, canon, check, evidence, simes, stages, test, weights
 from ._graph import Graph
-from ._library import (DONE, INTERFACE, LIMIT, MALFORMED, NO, NO_MEMORY, TOO_WIDE, UNREADABLE_WORDS, USAGE, Text, run)
+from ._library import INTERFACE
+from ._calls import DONE, LIMIT, MALFORMED, NO, NO_MEMORY, TOO_WIDE, UNREADABLE_WORDS, USAGE, Text, run
 from ._numbers import Given, PrintedDoubleWarning
 from ._refusals import BadAnswer, Refused, explain
 from ._results import (Adjusted, Answer, Arrival, Bounds, Checked, Component, Decision, Evidence, Flow, Listed, Look, Number, Page, Picture,
                        Quotient, RefusedLook, Settled, Shown, Simes, Stages, Step, Tested, Trials, Weights)
-from ._study import Study
+from ._study import RefusedLooks, Study
 
 __version__ = "0.2.0"
 
 __all__ = [
     "Adjusted", "Answer", "Arrival", "BadAnswer", "BesideWarning", "Bounds", "Checked", "Component", "DONE", "Decision", "Evidence",
     "Flow", "Given", "Graph", "INTERFACE", "LIMIT", "Level", "Listed", "Look", "MALFORMED", "NO", "NO_MEMORY", "Number", "Page", "Picture",
-    "PrintedDoubleWarning", "Quotient", "Refused", "RefusedLook", "Settled", "Shown", "Simes", "Stages", "Step", "Study", "TOO_WIDE",
-    "Tested", "Text", "Trials", "UNREADABLE_WORDS", "USAGE", "Weights", "as_exact", "bounds", "canon", "check", "evidence", "explain",
+    "PrintedDoubleWarning", "Quotient", "Refused", "RefusedLook", "RefusedLooks", "Settled", "Shown", "Simes", "Stages", "Step", "Study", "TOO_WIDE",
+    "Tested", "Text", "Trials", "UNREADABLE_WORDS", "USAGE", "Weights", "ZeroWarning", "as_exact", "bounds", "canon", "check", "evidence", "explain",
     "run", "simes", "stages", "test", "weights",
 ]

@@ -4,7 +4,7 @@ They are read as they are. A warning says so where that decides, and `as_exact` 
 """
 import struct
 from fractions import Fraction
-from typing import Any, Dict, List, NamedTuple, Optional, Sequence, Union
+from typing import Any, Dict, List, Mapping, NamedTuple, Optional, Sequence, Tuple, Union, overload
 
 from ._hypotheses import hold_distinct, is_many, values_of
 from ._numbers import LARGEST_DENOMINATOR, Given, known_value, numeral, read_double, said
@@ -15,6 +15,10 @@ _COUNTS = ("no units", "one unit", "two units", "three units", "four units")
 
 class BesideWarning(UserWarning):
     """A p-value is a few units in the last place above a small fraction that is its level, and so is not rejected."""
+
+
+class ZeroWarning(UserWarning):
+    """A p-value is 0, which rejects its hypothesis at every level."""
 
 
 class Beside(NamedTuple):
@@ -56,6 +60,22 @@ def meant(value: Fraction) -> Fraction:
 def exact_value(given: Any, place: str) -> Fraction:
     """Returns the exact value of one number."""
     return known_value(numeral(given, place), place)
+
+
+@overload
+def as_exact(given: Given, total: None = None) -> Fraction: ...
+
+
+@overload
+def as_exact(given: Union[List[Any], Tuple[Any, ...]], total: Optional[Given] = None) -> List[Fraction]: ...
+
+
+@overload
+def as_exact(given: Mapping[str, Any], total: Optional[Given] = None) -> Dict[str, Fraction]: ...
+
+
+@overload
+def as_exact(given: Any, total: Optional[Given] = None) -> Any: ...
 
 
 def as_exact(given: Any, total: Optional[Given] = None) -> Union[Fraction, List[Fraction], Dict[str, Fraction]]:

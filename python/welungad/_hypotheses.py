@@ -5,10 +5,11 @@ label is made from it, as R makes it. Values that have labels are put in the ord
 class; values without labels are in that order already. Nothing that cannot be matched once and wholly is taken.
 """
 import re
+import unicodedata
 from collections import Counter
-from typing import Any, List, Mapping, NamedTuple, Optional, Sequence, Tuple
+from typing import Any, Dict, List, Mapping, NamedTuple, Optional, Sequence, Tuple
 
-from ._library import kind_of
+from ._calls import kind_of
 from ._numbers import plain
 
 _LONGEST_NAME = 32
@@ -44,12 +45,29 @@ def hold_distinct(labels: Sequence[Any], argument: str) -> None:
             raise ValueError(f"{argument}: the label {label!r} occurs {count} times")
 
 
+def _looks_as(label: str) -> str:
+    """Returns what a reader sees of a label: its letters, however they are composed, with single blanks between its words."""
+    return " ".join(unicodedata.normalize("NFKC", label).split())
+
+
+def _difference(label: str, other: str) -> str:
+    """Returns where two labels that look alike differ, for a message."""
+    at = next((at for at, (one, two) in enumerate(zip(label, other)) if one != two), min(len(label), len(other)))
+    said = [f"U+{ord(text[at]):04X} {unicodedata.name(text[at], 'without a name')}" if at < len(text) else "its end" for text in (label, other)]
+    return f"at character {at + 1} the one has {said[0]}, and the other {said[1]}"
+
+
 def hold_labels(labels: Sequence[str], argument: str) -> Tuple[str, ...]:
-    """Returns labels, once they are texts and distinct. The messages name the argument and the label."""
+    """Returns labels, once they are texts, distinct, and not alike but for blanks. The messages name the argument and the label."""
     for number, label in enumerate(labels, 1):
         if not isinstance(label, str):
             raise TypeError(f"{argument}: label {number} is a text, and not {label!r} of type {kind_of(label)}")
     hold_distinct(labels, argument)
+    seen: Dict[str, str] = {}
+    for label in labels:
+        first = seen.setdefault(_looks_as(label), label)
+        if first is not label:
+            raise ValueError(f"{argument}: the labels {first!r} and {label!r} look alike: {_difference(first, label)}")
     # the text itself, and not what its class, such as an enumeration, shows for it
     return tuple(map(str.__str__, labels))
 
@@ -121,6 +139,14 @@ def values_of(given: Any, argument: str) -> Values:
     raise TypeError(f"{argument} is a list with a value for each hypothesis, or a dict by their names, and not of type {kind_of(given)}")
 
 
+def unknown_label(label: Any, labels: Sequence[str]) -> str:
+    """Returns what a message says of a label that is none of those of the hypotheses."""
+    seen = _looks_as(label) if isinstance(label, str) else None
+    alike = next((it for it in labels if _looks_as(it) == seen), None)
+    hint = f"; of {label!r} and {alike!r}, {_difference(label, alike)}" if alike is not None else ""
+    return f"{label!r} is not the name of a hypothesis: they are {', '.join(map(repr, labels))}{hint}"
+
+
 def order_of(found: List[Any], labels: Sequence[str], argument: str) -> List[int]:
     """Returns where the label of each hypothesis is in `found`, which has each of them once and nothing else."""
     hold_labels(found, argument)
@@ -128,7 +154,7 @@ def order_of(found: List[Any], labels: Sequence[str], argument: str) -> List[int
     unknown = [label for label in found if label not in set(labels)]
     missing = [label for label in labels if label not in places]
     if unknown:
-        raise ValueError(f"{argument}: {unknown[0]!r} is not the name of a hypothesis: they are {', '.join(map(repr, labels))}")
+        raise ValueError(f"{argument}: {unknown_label(unknown[0], labels)}")
     if missing:
         raise ValueError(f"{argument}: the hypothesis {missing[0]!r} is missing")
     return [places[label] for label in labels]

@@ -8,20 +8,19 @@ interval has the rationals that round to it. It is read as
    with the even numerator;
 3. else the double rounded up to a multiple of 10^-30.
 
-The library reads doubles by a proved function. Without it, or with an older one, the rule is that of this module.
+The library reads doubles by a proved function, and nothing here reads them without it.
 
 So 1/3 is 1/3, 0.025 is 1/40, and 0.1 + 0.2, which is not the double 0.3, is 0.30000000000000004. A double below 0 or above 1, an
 infinite one and NaN have no reading.
 """
 import re
-import struct
 import warnings
 from decimal import Decimal
 from fractions import Fraction
 from numbers import Rational
-from typing import Any, Iterator, Optional, Tuple, Union
+from typing import Any, Iterator, Optional, Union
 
-from ._library import kind_of, readings
+from ._calls import kind_of, readings
 from ._refusals import BadAnswer
 
 Given = Union[Fraction, Decimal, str, int, float]
@@ -30,7 +29,6 @@ LARGEST_DENOMINATOR = 10_000
 _DIGITS_OF_A_DOUBLE = 15
 # far above what a case may have, and below what Python turns into a whole number at once
 _MOST_CHARACTERS, _MOST_BITS = 4000, 4096
-_MOST_PLACES = 30
 
 _NUMERAL = re.compile(r"[+-]?(?:(?P<whole>[0-9]+)/(?P<parts>[0-9]+)"
                       r"|(?P<before>[0-9]+)\.?(?P<after>[0-9]*)(?:[eE](?P<power>[+-]?[0-9]+))?"
@@ -47,78 +45,16 @@ class PrintedDoubleWarning(UserWarning):
 # ---- doubles
 
 
-def _small_fraction(double: float) -> Optional[Fraction]:
-    """Returns the fraction with the least denominator in the interval of a double, if that is at most 10,000.
-
-    The interval is so narrow that such a fraction is a convergent of the double's continued fraction, and their denominators
-    rise. A quotient of two small whole numbers is rounded as a rational is.
-    """
-    over, under = double.as_integer_ratio()
-    n, d, n_before, d_before = 1, 0, 0, 1
-    while under:
-        quotient, rest = divmod(over, under)
-        n, d, n_before, d_before = quotient * n + n_before, quotient * d + d_before, n, d
-        if d > LARGEST_DENOMINATOR:
-            return None
-        if n / d == double:
-            return Fraction(n, d)
-        over, under = under, rest
-    return None
-
-
-def _interval(double: float) -> Tuple[int, int, int, int]:
-    """Returns a double above 0 and the ends of its rounding interval, as low, double and high, and the power of 2 that all three
-    are divided by. Whether the ends belong to it decides nothing: the denominator of an end is 2^54 or a greater power."""
-    (bits,) = struct.unpack(">Q", struct.pack(">d", double))
-    exponent, digits = bits >> 52, bits & (2**52 - 1)
-    mantissa = digits + (2**52 if exponent else 0)
-    # In quarters of the last place. Below a power of 2 the doubles are twice as dense.
-    below = 1 if digits == 0 and exponent > 1 else 2
-    return 4 * mantissa - below, 4 * mantissa, 4 * mantissa + 2, 1077 - max(exponent, 1)
-
-
-def _rounded(over: int, power: int) -> int:
-    """Returns the whole number nearest to over / 2^power, of two the even one."""
-    below, rest = over >> power, over & ((1 << power) - 1)
-    half = 1 << (power - 1)
-    return below + (rest > half or (rest == half and below % 2 == 1))
-
-
-def _short_decimal(double: float) -> Optional[Fraction]:
-    """Returns the decimal in the interval of a double with the fewest places, up to 30: the nearest, of two the even one."""
-    low, middle, high, power = _interval(double)
-    for places in range(1, _MOST_PLACES + 1):
-        scale = 10**places
-        least, most = -(-low * scale >> power), high * scale >> power
-        if least <= most:
-            return Fraction(min(max(_rounded(middle * scale, power), least), most), scale)
-    return None
-
-
 def read_double(double: float) -> Fraction:
-    """Returns the fraction that a double is read as: by the library if it is there, else by the same rule here.
+    """Returns the fraction that a double is read as, by the library.
 
-    `ValueError`: it is not from 0 to 1."""
+    `ValueError`: it is not from 0 to 1. `OSError`: there is no library, or an older one, which reads no doubles."""
     if not 0 <= double <= 1:
         raise ValueError(f"{double!r} is not from 0 to 1")
-    found = readings([double])
-    if found is None:
-        return own_reading(double)
-    [(n, d)] = found
+    [(n, d)] = readings([double])
     if d == 0:
         raise BadAnswer(f"what answered has no reading of {double!r}")
     return Fraction(n, d)
-
-
-def own_reading(double: float) -> Fraction:
-    """Returns the fraction that a double from 0 to 1 is read as, without the library."""
-    if double == 0:
-        return Fraction(0)
-    found = _small_fraction(double) or _short_decimal(double)
-    if found is None:
-        over, under = double.as_integer_ratio()
-        found = Fraction(-(-over * 10**_MOST_PLACES // under), 10**_MOST_PLACES)
-    return found
 
 
 # ---- texts
@@ -141,6 +77,16 @@ def value_of(text: str) -> Optional[Fraction]:
     if abs(power) > 9999:
         return None
     return sign * digits * Fraction(10)**power
+
+
+def has_many_digits(text: str) -> bool:
+    """Whether a numeral, written out without its exponent, has more than 38 digits or decimal places."""
+    value = value_of(text)
+    if value is None:
+        return True
+    parts = re.split("[/.]", re.sub("[eE].*", "", text.lstrip("+-")))
+    places = next((places for places in range(40) if value * 10**places % 1 == 0), 40) if "/" not in text else 0
+    return places > 38 or max(len(part.lstrip("0")) for part in parts) > 38 or value.numerator >= 10**38
 
 
 def known_value(text: str, place: str) -> Fraction:
@@ -179,8 +125,10 @@ def printed_double(text: str) -> Optional[Fraction]:
         return None
     double = float(text)
     is_printed = text in (repr(double), f"{double:.17g}", f"{double:.18e}")
-    found = _small_fraction(double) if 0 < double <= 1 and is_printed else None
-    return None if found == value_of(text) else found
+    if not (0 < double <= 1 and is_printed):
+        return None
+    found = read_double(double)
+    return None if found == value_of(text) or found.denominator > LARGEST_DENOMINATOR else found
 
 
 def _texts(found: Any) -> Iterator[str]:
@@ -242,6 +190,13 @@ def plain(value: Any, place: str) -> Any:
             raise TypeError(f"{place} has the text {text!r}, which numpy made of the double {printed_double(text)}: give an array of "
                             "doubles, or of objects")
     return found
+
+
+def double_in(value: Any) -> Optional[float]:
+    """Returns the double that a number is, also one of an array without dimensions; nothing for any other number."""
+    if callable(getattr(value, "tolist", None)) and getattr(value, "ndim", None) == 0:
+        value = value.tolist()
+    return float(value) if isinstance(value, float) else None
 
 
 def _warn_of_printed_double(text: str, place: str) -> None:

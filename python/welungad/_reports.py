@@ -1,17 +1,19 @@
-"""Answers: the one function that takes a text for the answer to a call, and the values that the text is read into.
+"""Reports: the one function that takes a text for the answer to a call, and the values that the text is read into.
 
-A text is taken only if it is the whole answer to this command for the hypotheses of this case. So no other program and no part
-of an answer passes for a decision.
+A text is taken only if it is the whole answer to this command for the hypotheses of this case: each line in its place, each set in
+its order, each fraction in lowest terms. So no other program and no part of an answer passes for a decision. docs/REPORTS.md has the
+reports.
 """
 import re
 from fractions import Fraction
 from functools import partial
-from typing import Callable, Dict, FrozenSet, List, Mapping, NoReturn, Optional, Tuple, TypeVar
+from typing import Callable, Dict, FrozenSet, Iterator, List, Mapping, NoReturn, Sequence, Tuple, TypeVar
 
-from ._library import DONE, LIMIT, MALFORMED, NO, NO_MEMORY, TOO_WIDE, UNREADABLE_WORDS, USAGE
+from ._calls import DONE, LIMIT, MALFORMED, NO, NO_MEMORY, TOO_WIDE, UNREADABLE_WORDS, USAGE
+from ._case import fraction, lowest_terms, whole_number
 from ._refusals import BadAnswer, Refused
-from ._results import (Adjusted, Arrival, Bounds, Checked, Decision, Evidence, Flow, Listed, Number, Quotient, Settled, Simes, Stages,
-                       Tested, Weights)
+from ._results import (Adjusted, Arrival, Bounds, Checked, Component, Decision, Evidence, Flow, Listed, Number, Quotient, Settled, Simes, Stages,
+                       Tested, Updated, Weights)
 
 READ_FAULT, KEEPER_FAULT = 6, 9
 
@@ -21,7 +23,7 @@ _REFUSALS = {USAGE: "usage: ", MALFORMED: "malformed: ", LIMIT: "limit: ", TOO_W
 # How the answer to each command begins; that of canon by its form.
 _BEGINS = {"test": "alpha ", "weights": "weights ", "bounds": "bounds ", "simes": "simes ", "evidence": "evidence ",
            "check": "yes\n", "stages": "alpha ", "study": "alpha ", "canon": "alpha ", "canon csv": "hypothesis,weight,p",
-           "canon json": "{\"alpha\":", "catalogue": "alpha "}
+           "canon json": "{\"alpha\":", "catalogue": "alpha ", "update": "component "}
 _WITHOUT_END = ("canon", "canon csv", "canon json", "catalogue")
 
 Item = TypeVar("Item")
@@ -37,7 +39,7 @@ def take_answer(command: str, status: int, text: bytes) -> str:
     `Refused`: the call was refused. `BadAnswer`: the status or the text is none of this command.
     """
     if status == UNREADABLE_WORDS and not text:
-        raise Refused(status, "")
+        raise Refused(status, "", command=command)
     try:
         printed = text.decode("ascii")
     except UnicodeDecodeError:
@@ -47,7 +49,7 @@ def take_answer(command: str, status: int, text: bytes) -> str:
         if printed.count("\n") != 1 or not printed.endswith("\n") or not printed.startswith(begins):
             _bad(command, printed, f"its status is {status}, and its text is not one line that begins with {begins!r}")
         if status != NO:
-            raise Refused(status, printed[:-1])
+            raise Refused(status, printed[:-1], command=command)
         return printed
     if status != DONE:
         _bad(command, printed, f"its status is {status}")
@@ -72,8 +74,8 @@ class Report:
         self._next = 0
 
     def fail(self, cause: str) -> NoReturn:
-        """Refuses the answer."""
-        _bad(self.command, self.text, cause)
+        """Refuses the answer. The message has the number of the line that was taken last."""
+        _bad(self.command, self.text, f"line {self._next}: {cause}" if self._next else cause)
 
     def require(self, holds: bool, cause: str) -> None:
         """Refuses the answer unless something holds."""
@@ -87,7 +89,7 @@ class Report:
     def take(self, word: str) -> List[str]:
         """Takes the next line, which begins with this word, and returns its other words."""
         if not self.is_at(word):
-            self.fail(f"line {self._next + 1} does not begin with {word!r}")
+            self.fail(f"the next line does not begin with {word!r}")
         self._next += 1
         return self._lines[self._next - 1][1:]
 
@@ -141,12 +143,12 @@ def read_whole(command: str, text: str, labels: Mapping[str, str], read: Callabl
 
 def _tested(report: Report, words: List[str]) -> Tested:
     name, p, weight = report.numbers(words, "p", "weight")
-    return Tested(report.label(name), Fraction(p), Fraction(weight))
+    return Tested(report.label(name), fraction(p), fraction(weight))
 
 
 def _adjusted(report: Report, words: List[str]) -> Tuple[str, Adjusted]:
     report.require(words[2:] in ([], ["not", "reached"]), f"{' '.join(words)!r} is not a line of it")
-    return report.label(words[0]), Adjusted(Fraction(words[1]), len(words) == 2)
+    return report.label(words[0]), Adjusted(fraction(words[1]), len(words) == 2)
 
 
 def read_decision(report: Report) -> Decision:
@@ -157,6 +159,7 @@ def read_decision(report: Report) -> Decision:
         number, *words = report.take("step")
         report.require(number == str(len(steps) + 1), f"step {number} is not in its place")
         steps.append(_tested(report, words))
+        report.require(steps[-1].name not in [it.name for it in steps[:-1]], f"{steps[-1].name!r} is rejected twice")
     kept = report.take_all("kept", partial(_tested, report))
     rejected = report.ascending(report.take("rejected"))
     adjusted = report.take_all("adjusted", partial(_adjusted, report))
@@ -164,46 +167,54 @@ def read_decision(report: Report) -> Decision:
     retained = tuple(name for name in report.all_labels() if name not in rejected)
     report.require(tuple(it.name for it in kept) == retained, "it does not say of each hypothesis whether it is rejected")
     report.require(tuple(name for name, _ in adjusted) == report.all_labels(), "it has not one adjusted p-value for each hypothesis")
-    return Decision(Fraction(alpha), tuple(steps), kept, rejected, dict(adjusted))
+    return Decision(fraction(alpha), tuple(steps), kept, rejected, dict(adjusted))
 
 
 # ---- weights, bounds, simes
 
 
-def _hold_sets(report: Report, count: str, sets: List[FrozenSet[str]]) -> None:
-    """Refuses an answer that has not each set of hypotheses once."""
+def sets_of(labels: Sequence[str]) -> Iterator[List[str]]:
+    """Yields the sets in the order of the reports: all, and after each set those that leave out one more, later hypothesis."""
+    def without(members: List[str], first: int) -> Iterator[List[str]]:
+        if members:
+            yield members
+        for k in range(first, len(labels)):
+            yield from without([label for label in members if label != labels[k]], k + 1)
+    return without([*labels], 0)
+
+
+def _read_count(report: Report, word: str) -> None:
+    """Takes the first line, which has the number of the hypotheses."""
+    (count,) = report.take(word)
     size = len(report.labels)
     report.require(count == str(size), f"it is of {count} hypotheses, and the case has {size}")
-    report.require(len(sets) == len(set(sets)) == 2**size - 1, "it has not each set of hypotheses once")
 
 
-def _weight(report: Report, word: str) -> Tuple[str, Fraction]:
+def _weight(report: Report, word: str) -> Tuple[str, str]:
     name, _, weight = word.rpartition("=")
-    return report.label(name), Fraction(weight)
-
-
-def _weights(report: Report, words: List[str]) -> Dict[str, Fraction]:
-    return dict(_weight(report, word) for word in words)
+    return report.label(name), weight
 
 
 def read_weights(report: Report) -> Weights:
     """Reads the report of `weights`."""
-    (count,) = report.take("weights")
-    sets = report.take_all("set", partial(_weights, report))
-    _hold_sets(report, count, [frozenset(weights) for weights in sets])
-    return Weights({frozenset(weights): weights for weights in sets})
-
-
-def _bound(report: Report, words: List[str]) -> Tuple[FrozenSet[str], int]:
-    report.require(words[1] == "of", f"{' '.join(words)!r} is not a line of it")
-    return frozenset(map(report.label, words[2:])), int(words[0])
+    _read_count(report, "weights")
+    found = {}
+    for members in sets_of(report.all_labels()):
+        words = [_weight(report, word) for word in report.take("set")]
+        report.require([label for label, _ in words] == members, f"it is not the set of {', '.join(map(repr, members))}")
+        found[frozenset(members)] = {label: fraction(weight) for label, weight in words}
+    return Weights(found)
 
 
 def _read_bounds(report: Report, word: str) -> Dict[FrozenSet[str], int]:
-    (count,) = report.take(word)
-    bounds = report.take_all("bound", partial(_bound, report))
-    _hold_sets(report, count, [names for names, _ in bounds])
-    return dict(bounds)
+    _read_count(report, word)
+    found = {}
+    for members in sets_of(report.all_labels()):
+        bound, of, *names = report.take("bound")
+        is_its = of == "of" and list(map(report.label, names)) == members and whole_number(bound) <= len(members)
+        report.require(is_its, f"it is not a bound of {', '.join(map(repr, members))}")
+        found[frozenset(members)] = int(bound)
+    return found
 
 
 def read_bounds(report: Report) -> Bounds:
@@ -218,7 +229,7 @@ def read_simes(report: Report) -> Simes:
     for size in range(1, len(report.labels) + 1):
         number, bound = report.numbers(report.take("top"), "bound")
         report.require(number == str(size), f"top {number} is not in its place")
-        top.append(int(bound))
+        top.append(whole_number(bound))
     return Simes(bounds, tuple(top), report.ascending(report.take("rejected")))
 
 
@@ -228,14 +239,18 @@ def read_simes(report: Report) -> Simes:
 def number(word: str) -> Number:
     """Returns a number of a document of evidence."""
     if not word.startswith("["):
-        return Fraction(word)
+        return fraction(word)
     numerator, denominator = word[1:-1].split("]/[")
-    return Quotient(tuple(map(Fraction, numerator.split(","))), tuple(map(Fraction, denominator.split(","))))
+    return Quotient(tuple(map(_coefficient, numerator.split(","))), tuple(map(_coefficient, denominator.split(","))))
+
+
+def _coefficient(word: str) -> Fraction:
+    return -fraction(word[1:]) if word.startswith("-") else fraction(word)
 
 
 def _flow(report: Report, words: List[str]) -> Flow:
     component, name, value = words
-    return Flow(int(component), report.label(name), number(value))
+    return Flow(whole_number(component), report.label(name), number(value))
 
 
 def _read_listed(report: Report, word: str, further: str) -> Tuple[Listed, ...]:
@@ -257,7 +272,7 @@ def read_evidence(report: Report) -> Evidence:
         due = [(component, name) for component in range(1, components + 1) for name in names[:number]]
         found = [(flow.component, flow.name) for flow in listed.flows]
         report.require(found == due, f"it has not each number of {listed.name!r}")
-    return Evidence(int(version), steps, keeps, report.text)
+    return Evidence(whole_number(version), steps, keeps, report.text)
 
 
 def read_checked(report: Report) -> Checked:
@@ -292,86 +307,59 @@ def check_answer(text: str, proof: bytes, labels: Mapping[str, str]) -> Checked:
 def settled(report: Report, words: List[str]) -> Settled:
     """Reads a line `reject`."""
     name, stage, weight = report.numbers(words, "stage", "weight")
-    return Settled(report.label(name), int(stage), Fraction(weight))
+    return Settled(report.label(name), whole_number(stage), fraction(weight))
 
 
 def read_stages(report: Report) -> Stages:
     """Reads the report of `stages`."""
     (alpha,) = report.take("alpha")
-    arrivals = []
+    arrivals: List[Arrival] = []
+    found: List[str] = []
     while report.is_at("arrive"):
         name, stage, p = report.take("arrive")
-        rejections = report.take_all("reject", partial(settled, report))
-        arrivals.append(Arrival(report.label(name), int(stage), Fraction(p), rejections))
+        rejections = []
+        while report.is_at("reject"):
+            rejections.append(settled(report, report.take("reject")))
+            report.require(rejections[-1].name not in found, f"{rejections[-1].name!r} is rejected twice")
+            found.append(rejections[-1].name)
+        arrivals.append(Arrival(report.label(name), whole_number(stage), fraction(p), tuple(rejections)))
     rejected = report.ascending(report.take("rejected"))
-    found = [it.name for arrival in arrivals for it in arrival.rejections]
     report.require(sorted(found) == sorted(rejected), "what it rejects is not what its looks reject")
-    return Stages(Fraction(alpha), tuple(arrivals), rejected)
+    return Stages(fraction(alpha), tuple(arrivals), rejected)
 
 
-# ---- canonical texts
-
-_COEFFICIENT = re.compile(r"([+-]?)(\d+(?:/\d+)?)?\*?(\\epsilon(?:\^(\d))?)?")
+# ---- the graph after rejections
 
 
-def polynomial(text: str) -> Tuple[Fraction, ...]:
-    """Returns the coefficients, by ascending power of epsilon, of an edge as a canonical text has it."""
-    found = {0: Fraction(0)}
-    at = 0
-    while at < len(text):
-        match = _COEFFICIENT.match(text, at)
-        if match is None or match.end() == at:
-            raise ValueError(f"{text!r} is not an edge")
-        sign, size, epsilon, power = match.groups()
-        found[(int(power) if power else 1) if epsilon else 0] = Fraction(size or 1) * (-1 if sign == "-" else 1)
-        at = match.end()
-    return tuple(found.get(power, Fraction(0)) for power in range(max(found) + 1))
+def _level(report: Report, words: List[str]) -> Tuple[str, Fraction]:
+    name, level = words
+    return report.label(name), fraction(level)
 
 
-def edge_of(text: str) -> Number:
-    """Returns an edge of a canonical text."""
-    coefficients = polynomial(text)
-    return coefficients[0] if len(coefficients) == 1 else Quotient(coefficients, (Fraction(1),))
+def _edge(report: Report, words: List[str]) -> Tuple[str, str, Number]:
+    start, end, value = words
+    return report.label(start), report.label(end), lowest_terms(number(value))
 
 
-class Canonical:
-    """A canonical text, as its parts: the level, the names, the p-values if it has any, the graphs, and the lines of its stages."""
-
-    def __init__(self, text: str):
-        lines = [line.split(" ") for line in text.split("\n")[:-1]]
-        if len(lines) < 3 or lines[0][0] != "alpha" or len(lines[0]) != 2 or lines[1][0] != "hypotheses":
-            _bad("canon", text, "its first lines are not alpha and hypotheses")
-        self.alpha = Fraction(lines[0][1])
-        self.names = tuple(lines[1][1:])
-        self.p: Optional[Dict[str, Fraction]] = None
-        self.shares: List[Fraction] = []
-        self.weights: List[Dict[str, Fraction]] = []
-        self.edges: List[Dict[Tuple[str, str], Number]] = []
-        self.stages: List[List[str]] = []
-        for word, *words in lines[2:]:
-            self._put(word, words)
-
-    def _put(self, word: str, words: List[str]) -> None:
-        if word == "p":
-            self.p = dict(zip(self.names, map(Fraction, words)))
-        elif word == "component":
-            self.shares.append(Fraction(words[0]))
-        elif word == "weights":
-            if len(self.shares) == len(self.weights):
-                self.shares.append(Fraction(1))
-            self.weights.append(dict(zip(self.names, map(Fraction, words))))
-            self.edges.append({})
-        elif word == "edge":
-            self.edges[-1][words[0], words[1]] = edge_of(words[2])
-        elif word in ("stages", "spend", "table", "arrive"):
-            self.stages.append([word, *words])
-        else:
-            _bad("canon", word, "it has an unknown line")
-
-
-def read_canonical(text: str) -> Canonical:
-    """Reads a canonical text. `BadAnswer`: it is none."""
-    try:
-        return Canonical(text)
-    except (ValueError, IndexError, ZeroDivisionError) as error:
-        _bad("canon", text, f"a line of it cannot be read ({error})")
+def read_update(report: Report) -> Updated:
+    """Reads the answer of the call that updates a graph, whose `labels` are those of the hypotheses that remain. A component has no share
+    of its own here."""
+    components: List[Component] = []
+    while report.is_at("component"):
+        (at,) = report.take("component")
+        report.require(at == str(len(components) + 1), f"component {at} is not in its place")
+        weights: Dict[str, Number] = {}
+        edges: Dict[Tuple[str, str], Number] = {}
+        for label in report.all_labels():
+            name, value = report.take("weight")
+            report.require(report.label(name) == label, f"it is not the weight of {label!r}")
+            weights[label] = lowest_terms(number(value))
+            found = report.take_all("edge", partial(_edge, report))
+            ends = [end for _, end, _ in found]
+            report.require(all(start == label for start, _, _ in found) and label not in ends, f"an edge before it is not one from {label!r}")
+            report.require(ends == [it for it in report.all_labels() if it in ends], f"the edges from {label!r} are not in their order")
+            edges.update({(start, end): edge for start, end, edge in found})
+        components.append(Component(Fraction(1), weights, edges))
+    levels = dict(report.take_all("level", partial(_level, report)))
+    report.require(tuple(levels) == report.all_labels() and bool(components), "it has not one level for each hypothesis that remains")
+    return Updated(tuple(components), levels)

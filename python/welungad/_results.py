@@ -1,10 +1,24 @@
 """Results: what the commands print, as values. Numbers are exact; the names are the user's labels, or those of a text."""
-from dataclasses import dataclass, field
+from dataclasses import dataclass, field, replace
 from fractions import Fraction
+from html import escape
+from importlib import import_module
 from os import PathLike
-from typing import Dict, FrozenSet, Sequence, Tuple, TypeVar, Union
+from typing import Any, Dict, FrozenSet, Iterable, List, Mapping, Sequence, Tuple, TypeVar, Union
 
 from ._files import write_whole
+
+Value = TypeVar("Value")
+
+
+def _level(given: Any) -> Fraction:
+    """Returns a level as every number is read. `ValueError`: it is not from 0 to 1."""
+    from ._beside import exact_value
+
+    level = exact_value(given, "level")
+    if not 0 <= level <= 1:
+        raise ValueError(f"level is {level}, and not from 0 to 1")
+    return level
 
 
 @dataclass(frozen=True)
@@ -13,20 +27,41 @@ class Answer:
     `names` are the labels of the hypotheses in their order. `case` is the text of the case that was decided, in which the hypotheses
     have the program's names; it is empty if the caller gave a text."""
 
-    report: str = field(default="", init=False, repr=False, compare=False)
-    case: str = field(default="", init=False, repr=False, compare=False)
-    words: Tuple[str, ...] = field(default=(), init=False, repr=False, compare=False)
-    names: Tuple[str, ...] = field(default=(), init=False, repr=False, compare=False)
+    report: str = field(default="", kw_only=True, repr=False, compare=False)
+    case: str = field(default="", kw_only=True, repr=False, compare=False)
+    words: Tuple[str, ...] = field(default=(), kw_only=True, repr=False, compare=False)
+    names: Tuple[str, ...] = field(default=(), kw_only=True, repr=False, compare=False)
 
 
 Result = TypeVar("Result", bound=Answer)
 
 
 def answered(result: Result, words: Sequence[str], report: str, names: Sequence[str], case: str = "") -> Result:
-    """Returns the result, once it has the words of its call, the labels of the hypotheses, and the texts that it was read from."""
-    for name, value in [("report", report), ("case", case), ("words", tuple(words)), ("names", tuple(names))]:
-        object.__setattr__(result, name, value)
-    return result
+    """Returns the result with the words of its call, the labels of the hypotheses, and the texts that it was read from."""
+    return replace(result, report=report, case=case, words=tuple(words), names=tuple(names))
+
+
+def _frame(rows: Sequence[Dict[str, Any]], columns: Sequence[str]) -> Any:
+    """Returns a frame of pandas, with exact numbers as objects. `ImportError`: pandas is not there."""
+    pandas = import_module("pandas")
+    return pandas.DataFrame({column: pandas.Series([row.get(column) for row in rows], dtype=_dtype(row.get(column) for row in rows))
+                             for column in columns}, columns=list(columns))
+
+
+def _dtype(values: Iterable[Any]) -> str:
+    """Returns the type of a column: objects, unless all of its values are whole numbers or all truth values."""
+    kinds = {type(value) for value in values}
+    return "int64" if kinds == {int} else "bool" if kinds == {bool} else "object"
+
+
+def _of(sets: Mapping[FrozenSet[str], Value], names: Sequence[str]) -> Value:
+    """Returns what is known of a set. `ValueError`: a name is not one of a hypothesis, or there is none."""
+    known = max(sets, key=len, default=frozenset())
+    unknown = next((name for name in names if not isinstance(name, str) or name not in known), None)
+    if unknown is not None or not names:
+        said = f"{unknown!r} is not the name of a hypothesis" if names else "the set has no hypothesis"
+        raise ValueError(f"of: {said}: they are {', '.join(map(repr, sorted(known)))}")
+    return sets[frozenset(names)]
 
 
 @dataclass(frozen=True)
@@ -55,29 +90,59 @@ class Decision(Answer):
     steps: Tuple[Tested, ...]
     kept: Tuple[Tested, ...]
     rejected: Tuple[str, ...]
-    adjusted: Dict[str, Adjusted]
+    adjusted: Dict[str, Adjusted] = field(hash=False)
+
+    def rejected_at(self, level: Any) -> Tuple[str, ...]:
+        """Returns the names that the test rejects at another level, from 0 to 1: those whose adjusted p-value is at most the level.
+
+        The level is read as every number is, so that 0.015 is 3/200. To compare an adjusted p-value with the double 0.015 is not the
+        same, since that is below 3/200."""
+        return tuple(name for name, it in self.adjusted.items() if it.reached and it.p <= _level(level))
+
+    def to_frame(self) -> Any:
+        """Returns a frame of pandas with a row for each hypothesis, and exact numbers. `step` is 0 if the hypothesis is retained."""
+        steps = {it.name: number for number, it in enumerate(self.steps, 1)}
+        tested = {it.name: it for it in self.steps + self.kept}
+        rows = [{"hypothesis": name, "rejected": name in steps, "step": steps.get(name, 0), "p": tested[name].p, "weight": tested[name].weight,
+                 "level": tested[name].weight * self.alpha, "adjusted": it.p, "reached": it.reached} for name, it in self.adjusted.items()]
+        return _frame(rows, ("hypothesis", "rejected", "step", "p", "weight", "level", "adjusted", "reached"))
+
+    def _repr_html_(self) -> str:
+        from ._page import decision_html
+
+        return decision_html(self)
 
 
 @dataclass(frozen=True)
 class Bounds(Answer):
     """What `bounds` prints: for each set that is not empty, a lower bound on the number of false hypotheses in it."""
 
-    bounds: Dict[FrozenSet[str], int]
+    bounds: Dict[FrozenSet[str], int] = field(hash=False)
 
     def of(self, *names: str) -> int:
-        """Returns the bound of the set of these names."""
-        return self.bounds[frozenset(names)]
+        """Returns the bound of the set of these names. `ValueError`: one is not the name of a hypothesis, or there is none."""
+        return _of(self.bounds, names)
+
+    def to_frame(self) -> Any:
+        """Returns a frame of pandas with a row for each set: whether each hypothesis is in it, and its bound."""
+        rows = [{**{name: name in members for name in self.names}, "bound": bound} for members, bound in self.bounds.items()]
+        return _frame(rows, (*self.names, "bound"))
 
 
 @dataclass(frozen=True)
 class Weights(Answer):
     """What `weights` prints: for each set that is not empty, the intersection weight of each member."""
 
-    weights: Dict[FrozenSet[str], Dict[str, Fraction]]
+    weights: Dict[FrozenSet[str], Dict[str, Fraction]] = field(hash=False)
 
     def of(self, *names: str) -> Dict[str, Fraction]:
-        """Returns the weights of the members of the set of these names."""
-        return self.weights[frozenset(names)]
+        """Returns the weights of the members of the set of these names. `ValueError`: one is not the name of a hypothesis, or there is
+        none."""
+        return _of(self.weights, names)
+
+    def to_frame(self) -> Any:
+        """Returns a frame of pandas with a row for each set and a column for each hypothesis: its weight, or None if it is not in it."""
+        return _frame(list(self.weights.values()), self.names)
 
 
 @dataclass(frozen=True)
@@ -130,18 +195,24 @@ class Evidence(Answer):
 
 @dataclass(frozen=True)
 class Checked(Answer):
-    """What `check` answers. It counts as true only if the evidence holds.
+    """What `check` answers. It counts as true only if the evidence holds and is of the whole decision: of each hypothesis.
 
     If it holds, the closed test rejects each hypothesis of `listed`, and in version 2 none of `kept`. Else `reason` is the
-    program's line, which says at which step or hypothesis it does not."""
+    program's line, which says at which step or hypothesis it does not; `explain` has its meaning. A document of version 1 says nothing
+    of hypotheses that it does not list."""
 
     holds: bool
     listed: Tuple[str, ...]
     kept: Tuple[str, ...]
     reason: str
 
+    @property
+    def is_whole(self) -> bool:
+        """Whether the evidence is of each hypothesis: that it is rejected, or that it is retained."""
+        return bool(self.names) and {*self.listed, *self.kept} == {*self.names}
+
     def __bool__(self) -> bool:
-        return self.holds
+        return self.holds and self.is_whole
 
 
 @dataclass(frozen=True)
@@ -171,14 +242,40 @@ class Stages(Answer):
     arrivals: Tuple[Arrival, ...]
     rejected: Tuple[str, ...]
 
+    def to_frame(self) -> Any:
+        """Returns a frame of pandas with a row for each look, and a row more for each further hypothesis that a look rejects: the look,
+        its hypothesis, stage and p-value, and what it rejects with the stage and the weight of the rejection, or None."""
+        rows: List[Dict[str, Any]] = []
+        for number, it in enumerate(self.arrivals, 1):
+            look = {"look": number, "hypothesis": it.name, "stage": it.stage, "p": it.p}
+            rows += [{**look, "rejected": one.name, "by_stage": one.stage, "weight": one.weight} for one in it.rejections] or [look]
+        return _frame(rows, ("look", "hypothesis", "stage", "p", "rejected", "by_stage", "weight"))
+
 
 @dataclass(frozen=True)
 class Component:
     """A graph and its share of the level. `edges` has the pairs whose edge is not 0: from the first to the second."""
 
     share: Fraction
-    weights: Dict[str, Number]
-    edges: Dict[Tuple[str, str], Number]
+    weights: Dict[str, Number] = field(hash=False)
+    edges: Dict[Tuple[str, str], Number] = field(hash=False)
+
+    def of_share(self, share: Fraction) -> "Component":
+        """Returns this graph with another share."""
+        return Component(share, self.weights, self.edges)
+
+    def renamed(self, labels: Mapping[str, str]) -> "Component":
+        """Returns this graph with other names of its hypotheses."""
+        return Component(self.share, {labels[name]: weight for name, weight in self.weights.items()},
+                         {(labels[start], labels[end]): edge for (start, end), edge in self.edges.items()})
+
+
+@dataclass(frozen=True)
+class Updated:
+    """A graph after rejections: what is left of each component, and the weight of each remaining hypothesis over all components."""
+
+    components: Tuple[Component, ...]
+    weights: Dict[str, Fraction] = field(hash=False)
 
 
 @dataclass(frozen=True)
@@ -188,7 +285,7 @@ class Step:
     `weights` has the weight of each remaining hypothesis over all components, as a fraction of the level."""
 
     rejected: Tuple[str, ...]
-    weights: Dict[str, Fraction]
+    weights: Dict[str, Fraction] = field(hash=False)
     components: Tuple[Component, ...]
 
 
@@ -203,7 +300,7 @@ class Trials:
     names: Tuple[str, ...]
     rejected: Tuple["RowDecision", ...]
     statuses: Tuple[int, ...]
-    refused: Dict[int, str]
+    refused: Dict[int, str] = field(hash=False)
 
     def counts(self) -> Dict[str, int]:
         """Returns in how many rows each hypothesis is rejected. `ValueError`: a row has no decision."""
@@ -211,6 +308,11 @@ class Trials:
             number, cause = next(iter(self.refused.items()))
             raise ValueError(f"{len(self.refused)} rows have no decision; the first is row {number}: {cause}")
         return {name: sum(row[i] for row in self.rejected if row) for i, name in enumerate(self.names)}
+
+    def to_frame(self) -> Any:
+        """Returns a frame of pandas with a row for each trial and a column for each hypothesis: whether it is rejected, or None if the
+        row has no decision."""
+        return _frame([dict(zip(self.names, row or ())) for row in self.rejected], self.names)
 
 
 RowDecision = Union[Tuple[bool, ...], None]
@@ -270,3 +372,6 @@ class Page:
     def save(self, path: Union[str, "PathLike[str]"]) -> None:
         """Writes the page to a file, which has all of it or stays as it was. `OSError`: it cannot be written."""
         write_whole(self.html, path)
+
+    def _repr_html_(self) -> str:
+        return f'<iframe srcdoc="{escape(self.html)}" width="100%" height="800" style="border: 1px solid #999"></iframe>'

@@ -1,9 +1,11 @@
 """Many rows of p-values, a row a trial. Rows of doubles are decided in blocks, with one proved call each, between which an interrupt
 is seen. Any other row is one call of `test`, and so is each row if the library is an older one."""
-from typing import Any, Callable, Dict, List, Optional, Sequence, Tuple
+from fractions import Fraction
+from typing import Any, Callable, Dict, Iterator, List, Optional, Sequence, Tuple
 
+from ._beside import beside, beside_fraction
+from ._calls import DONE, LIMIT, MALFORMED, NO_MEMORY, TOO_WIDE, has_rows, test_rows
 from ._hypotheses import frame_labels, frame_rows, in_order, is_frame, order_of, rows_of
-from ._library import DONE, LIMIT, MALFORMED, NO_MEMORY, TOO_WIDE, has_rows, test_rows
 from ._numbers import numeral
 from ._refusals import BadAnswer, Refused
 from ._results import Decision, RowDecision, Trials
@@ -88,3 +90,18 @@ def decide_rows(case: str, rows: Sequence[Row], labels: Sequence[str], decide: C
             statuses.append(status)
             rejected.append(decision)
     return Trials(tuple(labels), tuple(rejected), tuple(statuses), refused)
+
+
+def ties_of(rows: Sequence[Row], trials: Trials, alpha: Fraction, decide: Callable[[List[str]], Decision]) -> Iterator[str]:
+    """Yields what a warning says of each p-value that is a double just above a small fraction that is its level."""
+    most = float(alpha) * (1 + 1e-9)
+    for number, (row, decision) in enumerate(zip(rows, trials.rejected), 1):
+        near = [at for at, it in enumerate(decision or ()) if not it and isinstance(row[at], float) and 0 < row[at] <= most and beside(row[at])]
+        if not near:
+            continue
+        weights = {it.name: it.weight for it in decide([numeral(value, f"row {number}") for value in row]).kept}
+        for at in near:
+            level = weights[trials.names[at]] * alpha
+            found = beside_fraction(row[at], level)
+            if found is not None and found.units > 0:
+                yield f"row {number}: the p-value of {trials.names[at]!r} is {row[at]!r}, {found}, which is its level"
