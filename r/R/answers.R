@@ -74,16 +74,12 @@ read_test <- function(lines, names) .Call(C_welungad_read_test, lines, names)
 
 # ---- all sets
 
-# The sets of positions of named members, in the order of the program; NULL if they are not all sets. `words` has the words of
-# each set.
-sets_in <- function(members, words, names) {
-  members <- match(members, names)
-  if (anyNA(members) || length(words) != 2^length(names) - 1) return(NULL)
-  sets <- split_like(members, words)
-  if (anyDuplicated(codes_of(sets))) NULL else sets
+# The sets of a report, in its order, with their codes, and with bounds or weights; NULL if they are not all sets. `word` is that of its first
+# line. Of weights there is a matrix with a row for each set: places among different `texts`, and NA for those that are no members.
+read_sets <- function(lines, names, word, has_weights) {
+  if (lines[1] != paste(word, whole_text(length(names)))) return(NULL)
+  .Call(C_welungad_read_sets, lines[-c(1, length(lines))], names, has_weights)
 }
-
-split_like <- function(x, parts) unname(split(x, rep(seq_along(parts), lengths(parts))))
 
 # A number for each set: the sum of 2^(position - 1) over its members.
 codes_of <- function(sets) {
@@ -91,24 +87,9 @@ codes_of <- function(sets) {
   as.vector(rowsum(2^(unlist(sets) - 1), rep(seq_along(sets), lengths(sets)), reorder = FALSE))
 }
 
-read_weights <- function(lines, names) {
-  if (lines[1] != paste("weights", whole_text(length(names)))) return(NULL)
-  own <- lines[-c(1, length(lines))]
-  if (!all(startsWith(own, "set "))) return(NULL)
-  words <- strsplit(substring(own, 5L), " ", fixed = TRUE)
-  members <- unlist(words)
-  sets <- sets_in(sub("=.*", "", members), words, names)
-  if (!is.null(sets)) list(sets = sets, weights = split_like(sub(".*=", "", members), words))
-}
+read_weights <- function(lines, names) read_sets(lines, names, "weights", TRUE)
 
-read_bounds <- function(lines, names, word = "bounds") {
-  if (lines[1] != paste(word, whole_text(length(names)))) return(NULL)
-  own <- lines[-c(1, length(lines))]
-  if (!all(grepl("^bound [0-9]+ of ", own))) return(NULL)
-  words <- strsplit(sub("^bound [0-9]+ of ", "", own), " ", fixed = TRUE)
-  sets <- sets_in(unlist(words), words, names)
-  if (!is.null(sets)) list(sets = sets, bound = as.integer(sub("^bound ([0-9]+) of .*", "\\1", own)))
-}
+read_bounds <- function(lines, names, word = "bounds") read_sets(lines, names, word, FALSE)
 
 read_simes <- function(lines, names) {
   n <- length(names)

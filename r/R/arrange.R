@@ -9,20 +9,28 @@ places_among <- function(given, keys, what) {
   }))
   found <- found[!vapply(found, is.null, NA)]
   if (length(found) == 1) return(found[[1]])
-  stop_at(what, fault_of_names(given, keys))
+  own <- paste0(": the hypotheses are ", listed(keys[[1]], 16L))
+  stop_at(what, if (length(found)) paste0("the names fit the hypotheses in more than one way", own) else fault_of_names(given, keys, own))
 }
 
 # Why names are not those of the hypotheses.
-fault_of_names <- function(given, keys) {
-  own <- paste0(": the hypotheses are ", listed(keys[[1]], 16L))
+fault_of_names <- function(given, keys, own) {
   empty <- which(is.na(given) | !nzchar(given))
   if (length(empty)) return(paste0(place_text(empty[1]), " has no name, and others have one"))
   if (anyDuplicated(given)) return(paste("the name", quoted(given[duplicated(given)][1]), "occurs twice"))
   unknown <- setdiff(given, unlist(keys))
-  if (length(unknown)) return(paste0("no hypothesis has the name ", quoted(unknown[1]), own))
+  if (length(unknown)) return(paste0(unknown_name(unknown[1], unlist(keys)), own, sentence_of_rows(given, unknown)))
   missing <- keys[[1]][vapply(seq_along(keys[[1]]), function(i) !any(vapply(keys, `[`, "", i) %in% given), NA)]
   if (length(missing)) return(paste("nothing is given for", quoted(missing[1])))
-  paste0("the names fit the hypotheses in more than one way", own)
+  paste0("some names are labels and others are the program's names, so they fit in no way: give all labels", own)
+}
+
+# What to do about rows that were put in another order, of which their numbers are left.
+sentence_of_rows <- function(given, unknown) {
+  counts <- whole_text(seq_along(given))
+  if (length(unknown) < length(given) || !setequal(given, counts) || identical(given, counts)) return("")
+  paste0(". The numbers ", listed(given, 4L), " are names, such as those of rows in another order: give rows the names of the hypotheses, ",
+    "or a column hypothesis")
 }
 
 # A vector, a list, or numbers that were read, in the order of the hypotheses. `count` is how many are needed, if it is known.
@@ -39,7 +47,7 @@ arranged <- function(x, keys, what, count = NULL) {
 }
 
 # The numbers of a vector, whatever its class. One row or column of a matrix or of a data frame is a vector, with the names of
-# its other side, else those of its elements; so are the columns `hypothesis` and another one of a data frame.
+# its other side, else those of its elements; so are the columns `hypothesis` and `p` of a data frame, or `weight`, as column_names has it.
 exact_vector <- function(x, what) {
   if (is.double(x) && is.null(attributes(x))) return(exact_of(x, what))
   if (is.data.frame(x)) return(vector_of_frame(x, what))
@@ -50,25 +58,45 @@ exact_vector <- function(x, what) {
     stop_at(what, "a vector is needed, and not a table of ", paste(size, collapse = " by "))
   }
   side <- if (length(size) == 2 && size[1] == 1 && (size[2] > 1 || is.null(rownames(x)))) 2L else 1L
+  if (length(size) == 2) check_quantity(x$dimnames[[3L - side]], what)
   new_exact(x$given, x$read, x$rule, if (is.null(x$dimnames[[side]])) x$names else x$dimnames[[side]])
 }
 
+# What the column of the numbers of an argument is called beside the column hypothesis.
+column_names <- c(p = "p", hypotheses = "weight", at = "at")
+
 vector_of_frame <- function(x, what) {
+  column <- if (what %in% names(column_names)) column_names[[what]] else "another one"
   if ("hypothesis" %in% names(x) && length(x) == 2) {
     values <- setdiff(seq_along(x), match("hypothesis", names(x)))
+    if (what %in% names(column_names) && !identical(names(x)[values], column)) {
+      stop_at(what, "beside the column hypothesis a column ", column, " is needed, and not ", quoted(names(x)[values]))
+    }
     read <- column_of(x, values, what)
     names(read) <- texts_in(x$hypothesis, paste0(what, ": hypothesis"))
     check_aligned(x, values, read$names, what)
     return(read)
   }
   if (nrow(x) == 1 || length(x) == 1) return(exact_vector(exact_frame(x, what), what))
-  stop_at(what, "a data frame has one row with a column for each hypothesis, or the columns hypothesis and another one")
+  stop_at(what, "a data frame has one row with a column for each hypothesis, or the columns hypothesis and ", column)
+}
+
+# What a single row or column is called in the tables of this package, each with the argument that takes it.
+quantities <- c(p = "p", weight = "hypotheses", weights = "hypotheses", at = "at", share = "shares", shares = "shares", alpha = "alpha",
+  level = "levels", levels = "levels", adjusted = "", adjusted_p = "", step = "", stage = "", hypothesis = "", bound = "")
+
+# Stops if the row or column of the numbers is called as those of another argument.
+check_quantity <- function(name, what) {
+  known <- if (length(name) == 1) match(tolower(name), names(quantities)) else NA
+  if (!is.na(known) && quantities[[known]] != sub(":.*", "", what)) stop_at(what, "these numbers are called ", quoted(name))
 }
 
 # Stops if the numbers of a column, or their rows, have the names of the hypotheses beside them in another order: R leaves a named vector in
-# its order when it becomes a column.
+# its order when it becomes a column. Rows that are only counted, in whatever order, have none.
 check_aligned <- function(x, j, hypotheses, what) {
-  for (own in list(names_in(x[[j]]), own_row_names(x))) {
+  rows <- own_row_names(x)
+  if (setequal(rows, seq_len(nrow(x)))) rows <- NULL
+  for (own in list(names_in(x[[j]]), rows)) {
     if (!is.null(own) && all(own %in% hypotheses) && !identical(as.character(own), hypotheses)) {
       stop_at(what, "the numbers have the names ", listed(own, 4L), ", and the column hypothesis has ", listed(hypotheses, 4L))
     }
@@ -81,20 +109,23 @@ exact_frame <- function(x, what, rows = row_names_of(x, what)) {
   new_exact(joined(columns, "given"), joined(columns, "read"), joined(columns, "rule"), NULL, dim(x), list(rows, names(x)))
 }
 
-# The names of the rows of a data frame, else those that the numbers of its columns have. A single row has none of these, since its columns
-# are what has names.
+# The names of the rows of a data frame, else those that the numbers of its columns have. A single row has none of these, and its number
+# is no name, since its columns are what has names.
 row_names_of <- function(x, what) {
   own <- own_row_names(x)
-  if (!is.null(own) || nrow(x) == 1) return(own)
+  if (nrow(x) == 1) return(if (is.character(attr(x, "row.names"))) own)
+  if (!is.null(own)) return(own)
   inner <- unique(Filter(Negate(is.null), lapply(x, names_in)))
   if (length(inner) > 1) stop_at(what, "the columns have different names for their rows")
   if (length(inner)) as.character(inner[[1]])
 }
 
-# The names of the rows of a data frame; NULL if they are only counted.
+# The names of the rows of a data frame; NULL if they are 1, 2 and so on in this order. Other numbers are names, as
+# read.csv(row.names = 1) makes them.
 own_row_names <- function(x) {
   rows <- attr(x, "row.names")
-  if (is.character(rows)) rows
+  if (is.character(rows)) return(rows)
+  if (!identical(as.integer(rows), seq_len(nrow(x)))) whole_text(rows)
 }
 
 column_of <- function(x, j, what) {

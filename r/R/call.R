@@ -50,7 +50,8 @@ stop_without_way <- function() {
   stop(lacks, how_to_find_program, call. = FALSE)
 }
 
-how_to_find_program <- "let the environment variable WELUNGAD name the program, or put it on the path"
+how_to_find_program <- paste("let the environment variable WELUNGAD name the program, or put it on the path;",
+  "./install PREFIX, in a checkout of Welungad, makes both, as its README says")
 
 # A raw vector as it is, one text as it is, several texts as lines.
 bytes_of <- function(x, what) {

@@ -23,6 +23,7 @@ component_lines <- function(component, names, one) {
 # The text of the names and the graph of a case. The graph keeps it, with the names and components that it was made of: a graph
 # that was changed since then is written anew.
 graph_text <- function(graph) {
+  check_moved(graph)
   if (is_as_written(graph)) return(graph$written)
   check_order(graph)
   if (!is.null(graph$written)) warn_written(unlist(lapply(graph$components, function(it) c(it$weights, it$edges))), "graph")
@@ -34,9 +35,25 @@ is_as_written <- function(graph) {
   !is.null(kept) && identical(kept$names, graph$names) && identical(kept$components, graph$components)
 }
 
+# Stops if a label or a name of a graph was that of another hypothesis when the graph was made, since the numbers stay where they are. New
+# labels and names are allowed.
+check_moved <- function(graph) {
+  kept <- graph$written
+  if (is.null(kept) || identical(kept$labels, graph$labels) && identical(kept$names, graph$names)) return(invisible())
+  for (own in c("labels", "names")) for (old in c("labels", "names")) {
+    at <- match(graph[[own]], kept[[old]])
+    moved <- which(!is.na(at) & at != seq_along(at))
+    if (length(moved)) {
+      stop_at("graph", quoted(graph[[own]][moved[1]]), " was the ", substr(old, 1, nchar(old) - 1), " of another hypothesis, whose numbers stay ",
+        "where they are: make a graph with the hypotheses in this order")
+    }
+  }
+}
+
 # Stops if the weights or the edges of a graph, which are written in their order, have other names than its hypotheses, or have them in
 # another order, if they are not texts, or if edges are not those of its hypotheses.
 check_order <- function(graph) {
+  check_moved(graph)
   if (is_as_written(graph)) return(invisible())
   n <- length(graph$names)
   for (component in graph$components) {
@@ -54,9 +71,14 @@ check_order <- function(graph) {
 
 write_graph <- function(graph) {
   one <- length(graph$components) == 1
-  lines <- unlist(lapply(graph$components, component_lines, names = graph$names, one = one))
+  written_graph(graph, unlist(lapply(graph$components, component_lines, names = graph$names, one = one)))
+}
+
+# The parts of the text of a graph with the lines of its components.
+written_graph <- function(graph, lines) {
   list(
     names = graph$names,
+    labels = graph$labels,
     components = graph$components,
     head = paste0(paste(c("hypotheses", graph$names), collapse = " "), "\n"),
     body = paste0(lines, "\n", collapse = "")

@@ -1,12 +1,28 @@
 # Graphs of the packages graphicalMCP and gMCP, taken by the fields of their objects. Neither package is needed.
 
-as_graph <- function(x) {
+as_graph <- function(x) graph_from(x, "x")
+
+# The classes of graphs that are read.
+graph_classes <- c("welungad_graph", "initial_graph", "updated_graph", "graphMCP", "entangledMCP")
+
+is_any_graph <- function(x) any(graph_classes %in% attr(x, "class"))
+
+# A graph of an object that an argument has.
+graph_from <- function(x, what) {
   if (inherits(x, "welungad_graph")) return(x)
   classes <- attr(x, "class")
   if ("initial_graph" %in% classes || "updated_graph" %in% classes) return(graph_of_list(x))
   if ("graphMCP" %in% classes) return(graph_of_slots(x))
   if ("entangledMCP" %in% classes) return(graph_of_entangled(x))
-  stop_at("x", "a graph of graphicalMCP (class initial_graph) or of gMCP (graphMCP, entangledMCP) is needed, and not a ", class(x)[1])
+  stop_at(what, "a graph is needed, of this package, of graphicalMCP (initial_graph) or of gMCP (graphMCP, entangledMCP), and not a ",
+    class(x)[1], place_of_graph(x))
+}
+
+# Where an object has a graph that could be meant.
+place_of_graph <- function(x) {
+  if (!is.list(x)) return("")
+  if (inherits(x, "welungad_update")) return(": x$updated_graph and x$initial_graph are graphs")
+  if (inherits(unclass(x)$graph, "welungad_graph")) ": x$graph is one" else ""
 }
 
 # graphicalMCP: a list of hypotheses and transitions.

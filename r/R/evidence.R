@@ -4,11 +4,12 @@ graph_evidence <- function(graph, p, alpha = 0.025, priority = c("first", "last"
   priority <- chosen(priority, priorities, "priority")
   case <- case_of(graph, p, alpha)
   evidence <- ask(c("evidence", if (priority != "first") c("--priority", priority)), case)
-  structure(list(evidence = evidence$lines, case = ask("canon", case)$lines, graph = graph), class = "welungad_evidence")
+  structure(list(evidence = evidence$lines, case = ask("canon", case)$lines, graph = case$graph), class = "welungad_evidence")
 }
 
 graph_check <- function(graph, p, alpha = 0.025, evidence) {
   case <- case_of(graph, p, alpha)
+  graph <- case$graph
   if (inherits(evidence, "welungad_evidence")) {
     check_own_labels(evidence, graph)
     evidence <- evidence$evidence
@@ -45,24 +46,31 @@ is_first_version <- function(evidence) {
 format.welungad_evidence <- function(x, ...) x$evidence
 
 print.welungad_evidence <- function(x, ...) {
+  check_dots(...)
   cat("Evidence for a decision\n")
   cat(x$evidence, sep = "\n")
   print_names(x$graph)
   invisible(x)
 }
 
-as.data.frame.welungad_evidence <- function(x, ...) data.frame(line = x$evidence, stringsAsFactors = FALSE)
+as.data.frame.welungad_evidence <- function(x, ...) {
+  check_dots(..., allowed = frame_arguments)
+  data.frame(line = x$evidence, stringsAsFactors = FALSE)
+}
 
 format.welungad_check <- function(x, ...) if (x$yes) "The evidence holds." else paste0("The evidence does not hold: ", x$reason)
 
 print.welungad_check <- function(x, ...) {
+  check_dots(...)
   cat(format(x), "\n", sep = "")
+  if (!x$yes) cat(advice(paste0("no: ", x$reason)), "\n", sep = "")
   if (x$yes) cat("The closed test rejects: ", if (length(x$listed)) paste(x$listed, collapse = ", ") else "none", "\n", sep = "")
   if (length(x$kept)) cat("It does not reject: ", paste(x$kept, collapse = ", "), "\n", sep = "")
   invisible(x)
 }
 
 as.data.frame.welungad_check <- function(x, ...) {
+  check_dots(..., allowed = frame_arguments)
   data.frame(
     hypothesis = c(x$listed, x$kept),
     rejected = rep(c(TRUE, FALSE), c(length(x$listed), length(x$kept))),

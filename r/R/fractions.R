@@ -9,15 +9,30 @@ fraction <- function(text) {
   do.call(c, parts)
 }
 
-# The double next to each fraction: the quotient that R computes if both parts are doubles.
+# The double nearest to each fraction, of two the even one: the quotient that R computes if both parts are doubles.
 as_double <- function(x) {
   n <- gmp::numerator(x)
   d <- gmp::denominator(x)
   small <- !is.na(x) & abs(n) <= gmp::as.bigz(2)^53 & d <= gmp::as.bigz(2)^53
-  out <- as.numeric(gmp::asNumeric(x))
+  out <- rep(NA_real_, length(x))
   out[small] <- as.numeric(gmp::asNumeric(n[small])) / as.numeric(gmp::asNumeric(d[small]))
+  for (i in which(!is.na(x) & !small)) out[i] <- nearest_double(n[i], d[i])
   out
 }
+
+# The double nearest to the quotient of two whole numbers. Of the 56 or 57 digits that are added, the last one is 1 if any after it is, so
+# that the sum is rounded once. gmp cuts what it makes a double.
+nearest_double <- function(n, d) {
+  shift <- 55 - (gmp::sizeinbase(n, 2) - gmp::sizeinbase(d, 2))
+  over <- abs(n) * two_to(max(shift, 0))
+  under <- d * two_to(max(-shift, 0))
+  digits <- 2 * (over %/% under) + (if (over %% under == 0) 0 else 1)
+  value <- as.numeric(gmp::asNumeric(digits %/% two_to(30))) * 2^30 + as.numeric(gmp::asNumeric(digits %% two_to(30)))
+  half <- (shift + 1) %/% 2
+  (if (n < 0) -value else value) * 2^-half * 2^-(shift + 1 - half)
+}
+
+two_to <- function(n) gmp::as.bigz(2)^n
 
 # The doubles of numerals in texts, NA for other texts.
 double_of <- function(text) {
@@ -29,14 +44,13 @@ double_of <- function(text) {
   out
 }
 
-# The same of fractions with longer parts, of those below 0, and of decimals.
+# The same of fractions with longer parts, of those below 0, and of decimals. R alone reads decimals with exponents beyond 10,000.
 double_of_any <- function(text) {
   out <- rep(NA_real_, length(text))
-  numeral <- is_numeral(text)
-  quotient <- numeral & grepl("/", text, fixed = TRUE)
-  if (any(quotient)) out[quotient] <- as_double(fraction(text[quotient]))
-  decimal <- numeral & !quotient
-  out[decimal] <- as.numeric(text[decimal])
+  numeral <- which(is_numeral(text))
+  if (length(numeral)) out[numeral] <- as_double(fraction(text[numeral]))
+  far <- numeral[is.na(out[numeral]) & !grepl("/", text[numeral], fixed = TRUE)]
+  out[far] <- as.numeric(text[far])
   out
 }
 

@@ -62,6 +62,11 @@ edge_texts <- function(x, what) {
     place <- element_texts(x)[wrong[1]]
     stop_at(what, "the edge at ", place, " is ", quoted(texts[wrong[1]]), ", which is neither a number nor an expression")
   }
+  other <- which(grepl("\\\\(?!epsilon)", texts, perl = TRUE))
+  if (length(other)) {
+    stop_at(what, "the edge at ", element_texts(x)[other[1]], " is ", quoted(texts[other[1]]), ", and epsilon is the one variable: ",
+      "replaceVariables() of gMCP gives values to others")
+  }
   texts[grepl("^[-+]?(0+[.]?0*|[.]0+)(/0*[1-9][0-9]*)?\\z", texts, perl = TRUE)] <- "0"
   texts
 }
@@ -79,13 +84,11 @@ new_graph <- function(names, labels, components, read = NULL) {
 
 graph_entangle <- function(..., shares) {
   graphs <- list(...)
-  if (length(graphs) == 1 && is.list(graphs[[1]]) && !inherits(graphs[[1]], "welungad_graph")) graphs <- graphs[[1]]
-  if (!length(graphs) || !all(vapply(graphs, inherits, NA, "welungad_graph"))) {
-    stop_at("...", "graphs are needed, as graph_create makes them")
-  }
+  if (length(graphs) == 1 && is.list(graphs[[1]]) && !is_any_graph(graphs[[1]])) graphs <- graphs[[1]]
+  if (!length(graphs) || !all(vapply(graphs, is_any_graph, NA))) stop_at("...", "graphs are needed, as graph_create makes them")
+  graphs <- lapply(graphs, check_graph)
   first <- graphs[[1]]
   for (graph in graphs) {
-    check_graph(graph)
     # which warns of what was changed by hand
     graph_text(graph)
     if (!identical(graph[c("names", "labels")], first[c("names", "labels")])) {
@@ -153,11 +156,12 @@ level_at_first <- new_exact("0.025", "1/40", "least denominator")
 
 # A case of a graph, its p-values and its level, as it is handed in, with the numbers as they were read.
 case_of <- function(graph, p, alpha) {
-  check_graph(graph)
+  graph <- check_graph(graph)
   level <- if (identical(alpha, 0.025)) level_at_first else exact_of(alpha, "alpha")
   case <- list(alpha = level)
   if (!is.null(p)) {
     case$p <- read_p(arranged(exact_vector(p, "p"), hypothesis_keys(graph), "p"), graph)
+    if (length(case$p) == 0) refuse(3L, "malformed: case: p count 0", where = "p: no p-values are given")
     p <- number_texts(case$p, "p")
   }
   case$text <- case_text(graph, level_text_of(level), p)
@@ -192,23 +196,30 @@ report_rounded <- function(p, labels) {
   }
 }
 
-say_rounded <- function(text) {
-  message(structure(class = c("welungad_rounded", "message", "condition"), list(message = paste0(text, "\n"), call = NULL)))
+say_rounded <- function(text) say("welungad_rounded", text)
+
+# A message of a class of its own.
+say <- function(class, text) {
+  message(structure(class = c(class, "message", "condition"), list(message = paste0(text, "\n"), call = NULL)))
 }
 
+# A graph, also of another package. Stops if one of this package was changed to what no call would read.
 check_graph <- function(graph) {
-  if (!inherits(graph, "welungad_graph")) stop_at("graph", "a graph is needed that graph_create or graph_entangle made")
+  if (!inherits(graph, "welungad_graph")) return(graph_from(graph, "graph"))
   check_parts(graph, c("names", "labels", "components", "read", "written"), "a graph")
   for (component in graph$components) check_parts(component, c("share", "weights", "edges"), "a component of a graph")
-  if (identical(graph$labels, graph$names)) return(invisible())
-  if (length(graph$labels) != length(graph$names)) stop_at("graph", "one label is needed for each hypothesis")
-  check_labels(graph$names, graph$labels)
+  if (!identical(graph$labels, graph$names)) {
+    if (length(graph$labels) != length(graph$names)) stop_at("graph", "one label is needed for each hypothesis")
+    check_labels(graph$names, graph$labels)
+  }
+  check_moved(graph)
+  graph
 }
 
 # Stops at a part that was added by hand, such as the `transitions` of other packages, since no call reads it.
 check_parts <- function(x, known, what, argument = "graph") {
-  other <- !names(x) %in% known
-  if (any(other)) stop_at(argument, what, " has the parts ", listed(known), ", and nothing reads a part ", quoted(names(x)[other][1]))
+  other <- setdiff(names(unclass(x)), known)
+  if (length(other)) stop_at(argument, what, " has the parts ", listed(known), ", and nothing reads a part ", quoted(other[1]))
 }
 
 has_epsilon <- function(graph) any(grepl(epsilon, unlist(graph$components), fixed = TRUE))
@@ -216,6 +227,7 @@ has_epsilon <- function(graph) any(grepl(epsilon, unlist(graph$components), fixe
 # ---- printing
 
 as.data.frame.welungad_graph <- function(x, ..., exact = FALSE) {
+  check_dots(..., allowed = frame_arguments)
   check_order(x)
   parts <- lapply(seq_along(x$components), function(c) {
     component <- x$components[[c]]
@@ -248,11 +260,12 @@ summary.welungad_graph <- function(object, ...) {
 }
 
 print.welungad_graph <- function(x, ...) {
+  check_dots(...)
   check_order(x)
   cat(format(x), "\n", sep = "")
   for (component in x$components) {
     if (length(x$components) > 1) cat("Share ", component$share, "\n", sep = "")
-    write_table(graph_table(component, x$labels))
+    write_labelled(x$labels, function(labels) graph_table(component, labels))
   }
   print_names(x)
   print_read(x$read, "shortest decimal")
@@ -271,7 +284,7 @@ graph_table <- function(component, labels) {
 print_names <- function(x) {
   other <- x$labels != x$names
   if (!any(other)) return(invisible())
-  cat("Names for the program: ", paste0(x$names[other], " for ", x$labels[other], collapse = ", "), "\n", sep = "")
+  cat("Names for the program: ", paste0(x$names[other], " for ", one_line(x$labels[other]), collapse = ", "), "\n", sep = "")
 }
 
 # The numbers that were read as another number than the decimal that R shows, and those of the rules in `rule`.

@@ -4,7 +4,7 @@
 rows_of_block <- 512L
 
 graph_test_many <- function(graph, P, alpha = 0.025) {
-  check_graph(graph)
+  graph <- check_graph(graph)
   level <- level_of(alpha)
   P <- rows_of_p(P, graph)
   out <- matrix(NA, nrow(P), ncol(P), dimnames = list(rownames(P), graph$labels))
@@ -18,7 +18,8 @@ graph_test_many <- function(graph, P, alpha = 0.025) {
     progress$at(max(rows))
   }
   report_wide(out)
-  out
+  report_many_ties(graph, level, P, out, decide)
+  new_many(out, graph, level)
 }
 
 # The p-values, a row a trial, with the columns in the order of the hypotheses: doubles, or else texts. None is missing.
@@ -31,13 +32,20 @@ rows_of_p <- function(P, graph) {
   if (!is.data.frame(P)) check_elements(P, "P")
   P <- if (is_of_doubles(P)) matrix_of_doubles(P) else matrix_of_texts(P)
   given <- colnames(P)
-  if (is.null(given) && any(rownames(P) %in% unlist(hypothesis_keys(graph)))) {
-    stop_at("P", "its rows have the names of hypotheses, and its columns have none: a row is a trial")
+  if (are_hypotheses(rownames(P), graph, is.null(given))) {
+    stop_at("P", "its rows have the names of hypotheses", if (is.null(given)) ", and its columns have none", ": a row is a trial",
+      if (!is.null(given)) ", and rownames(P) <- NULL drops the names of rows")
   }
   columns <- if (is.null(given)) seq_len(n) else places_among(given, hypothesis_keys(graph), "P: columns")
   check_p(P)
   if (is.double(P)) report_many_rounded(P)
   P[, columns, drop = FALSE]
+}
+
+# Whether rows have the names of hypotheses: of all of them, once each, or if it is enough of some.
+are_hypotheses <- function(rows, graph, some) {
+  keys <- hypothesis_keys(graph)
+  if (some) any(rows %in% unlist(keys)) else any(vapply(keys, function(key) length(rows) == length(key) && setequal(rows, key), NA))
 }
 
 is_of_doubles <- function(P) if (is.data.frame(P)) length(P) > 0 && all(vapply(P, is_plain, NA)) else is_plain(P)
@@ -143,4 +151,30 @@ report_wide <- function(out) {
     warn("welungad_wide", "P", count_of(length(wide), "row is", "rows are"), " NA, since numbers of the run are too wide: row ",
       listed(whole_text(wide)))
   }
+}
+
+# Reports the rows with p-values that are doubles beside fractions, with which they would be decided otherwise.
+report_many_ties <- function(graph, level, P, out, decide) {
+  meant <- if (is.double(P)) fractions_beside(P) else P[NA]
+  rows <- sort(unique(row(P)[!is.na(meant)]))
+  if (length(rows) == 0) return(invisible())
+  other <- decide(graph, level, ifelse(is.na(meant), P, meant)[rows, , drop = FALSE], rows)
+  differs <- which(other$statuses == 0L & rowSums(other$rejected != out[rows, , drop = FALSE], na.rm = TRUE) > 0)
+  if (length(differs) == 0) return(invisible())
+  at <- which(row(P) == rows[differs[1]] & !is.na(meant))[1]
+  say("welungad_tie", paste0("P: ", count_of(length(differs), "row"), " would be decided otherwise with the fractions beside doubles: row ",
+    listed(whole_text(rows[differs])), ". ", beside_sentences(read_doubles(P[at], "P")$read), "."))
+}
+
+# The doubles of the fractions beside doubles; NA for those that have none.
+fractions_beside <- function(P) {
+  near <- small_fractions(as.vector(P), as.vector(beside_units * last_place(P)))
+  meant <- near$n / near$d
+  at <- which(!is.na(meant) & meant != as.vector(P))
+  read <- read_doubles(P[at], "P")
+  has <- read$rule == "shortest decimal" & !is.na(beside(read$read)$fraction)
+  out <- P
+  out[] <- NA
+  out[at[has]] <- meant[at[has]]
+  out
 }

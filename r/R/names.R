@@ -15,12 +15,45 @@ texts_in <- function(x, what) {
   texts
 }
 
-# Stops unless the texts are different and none is missing or empty.
+# Stops unless the texts are different, also without their blanks, and none is missing or empty.
 check_distinct <- function(texts, what) {
   empty <- which(is.na(texts) | !nzchar(texts))
   if (length(empty)) stop_at(what, place_text(empty[1]), " has no name")
   twice <- which(duplicated(texts))
   if (length(twice)) stop_at(what, "the name ", quoted(texts[twice[1]]), " occurs twice")
+  plain <- without_blanks(texts)
+  alike <- which(duplicated(plain))
+  if (length(alike)) {
+    first <- match(plain[alike[1]], plain)
+    stop_at(what, "the names ", quoted(texts[first]), " and ", quoted(texts[alike[1]]), " are alike but for blanks: ",
+      first_difference(texts[alike[1]], texts[first]))
+  }
+}
+
+# Texts in which each blank is one space, none of them at the ends, and without characters that are not seen.
+without_blanks <- function(texts) {
+  if (all(is_name(texts))) return(texts)
+  seen <- gsub("[\u00ad\u200b-\u200f\u2060\ufeff]", "", enc2utf8(texts), perl = TRUE)
+  gsub("^ +| +$", "", gsub("[\\s\\p{Z}]+", " ", seen, perl = TRUE))
+}
+
+# That no hypothesis has a name, and how it differs from a label that looks the same.
+unknown_name <- function(name, labels) {
+  alike <- labels[match(shape_of(name), shape_of(labels))]
+  paste0("no hypothesis has the name ", quoted(name),
+    if (!is.na(alike)) paste0(", which looks like ", quoted(alike), ": ", first_difference(name, alike)))
+}
+
+# Texts without blanks, and with one sign in place of each letter beyond ASCII, written as one character or with its accents as others.
+shape_of <- function(texts) gsub("[^\\x01-\\x7f]", "?", gsub("\\p{L}\\p{M}+", "?", gsub(" ", "", without_blanks(texts)), perl = TRUE), perl = TRUE)
+
+# The first character in which two texts differ.
+first_difference <- function(one, other) {
+  codes <- lapply(enc2utf8(c(one, other)), utf8ToInt)
+  most <- max(lengths(codes))
+  at <- which(!mapply(identical, codes[[1]][seq_len(most)], codes[[2]][seq_len(most)]))[1]
+  shown <- vapply(codes, function(it) if (at > length(it)) "nothing" else sprintf("U+%04X", it[at]), "")
+  paste0("character ", whole_text(at), " is ", shown[1], ", and not ", shown[2])
 }
 
 # Names for labels: each label that is a name stays. Names that were made differ from all others, and from the labels.
@@ -63,7 +96,7 @@ positions_of <- function(graph, given, what) {
   if (!is.character(given)) stop_at(what, "hypotheses are given by their names, labels or positions")
   at <- match(given, graph$labels)
   at[is.na(at)] <- match(given[is.na(at)], graph$names)
-  if (anyNA(at)) stop_at(what, "no hypothesis has the name ", quoted(given[is.na(at)][1]))
+  if (anyNA(at)) stop_at(what, unknown_name(given[is.na(at)][1], unlist(hypothesis_keys(graph))))
   at
 }
 

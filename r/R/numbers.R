@@ -31,7 +31,8 @@ exact_of <- function(x, what) {
   } else if (has_doubles(x) || (is.logical(x) && all(is.na(x)))) {
     read <- read_doubles(as.double(x), what, names_of_places(x))
   } else {
-    stop_at(what, "numbers are doubles, integers, texts or fractions of gmp, and not of class ", class(x)[1])
+    kind <- if (is.array(x) && !is.object(x)) typeof(x) else class(x)[1]
+    stop_at(what, "numbers are doubles, integers, texts or fractions of gmp, and not of class ", kind)
   }
   new_exact(read$given, read$read, read$rule, names_in(x), dim(x), if (!is.null(dim(x))) dimnames(x))
 }
@@ -176,7 +177,7 @@ written_fractions <- function(texts) {
 # For each text of a double: the fraction with a denominator up to 10,000 beside it, and how many units in the last place the
 # double is above it. NA where there is none or it is the number itself.
 beside <- function(texts) {
-  x <- suppressWarnings(as.numeric(texts))
+  x <- double_of(texts)
   x[!grepl("[0-9.]{15}", texts)] <- NA
   near <- small_fractions(x, beside_units * last_place(x))
   units <- round((x - near$n / near$d) / last_place(x))

@@ -6,14 +6,17 @@ fill_plain <- "#f4f6f8"
 fill_rejected <- "#cfe8cf"
 fill_removed <- "#ececec"
 
-plot.welungad_graph <- function(x, layout = NULL, main = NULL, cex = 1, ...) {
-  draw_graph(x, x, layout, main, cex)
+plot.welungad_graph <- function(x, layout = NULL, main = NULL, cex = 1, labels = NULL, v_palette = NULL, nrow = NULL, ncol = NULL, ...) {
+  check_dots(...)
+  draw_graph(x, x, look_of(x, layout, labels, v_palette, nrow, ncol), main, cex)
   invisible(x)
 }
 
-plot.welungad_test <- function(x, layout = NULL, main = NULL, cex = 1, ...) {
+plot.welungad_test <- function(x, layout = NULL, main = NULL, cex = 1, labels = NULL, v_palette = NULL, nrow = NULL, ncol = NULL, ...) {
+  check_dots(...)
+  check_result(x)
   if (is.null(main)) main <- paste("level", level_text(x$alpha))
-  draw_graph(x$graph, x$graph, layout, main, cex, marked = x$rejected)
+  draw_graph(x$graph, x$graph, look_of(x$graph, layout, labels, v_palette, nrow, ncol), main, cex, marked = x$rejected)
   invisible(x)
 }
 
@@ -30,12 +33,15 @@ plot.welungad_bounds <- function(x, ...) {
 }
 
 # The graphs before the first removal and after each, side by side, each hypothesis at its place.
-plot.welungad_update <- function(x, layout = NULL, cex = 0.8, ...) {
+plot.welungad_update <- function(x, layout = NULL, cex = 0.8, labels = NULL, v_palette = NULL, nrow = NULL, ncol = NULL, ...) {
+  check_dots(...)
   n <- length(x$graphs)
+  look <- look_of(x$initial_graph, layout, labels, v_palette, nrow, ncol)
   columns <- columns_for(n, graphics::par("din"))
   old <- graphics::par(mfrow = c(ceiling(n / columns), columns))
   on.exit(graphics::par(old))
-  for (k in seq_len(n)) draw_graph(x$graphs[[k]], x$initial_graph, layout, titles_without(x$deleted[seq_len(k - 1)]), cex)
+  deleted <- look$labels[match(x$deleted, x$initial_graph$labels)]
+  for (k in seq_len(n)) draw_graph(x$graphs[[k]], x$initial_graph, look, titles_without(deleted[seq_len(k - 1)]), cex)
   invisible(x)
 }
 
@@ -54,9 +60,9 @@ titles_without <- function(deleted) {
 
 # Draws a graph; `all` has the hypotheses that have a place, and those that the graph lacks are drawn as removed. `main` has titles, of
 # which the first that fits is taken.
-draw_graph <- function(graph, all, layout, main, cex, marked = NULL) {
+draw_graph <- function(graph, all, look, main, cex, marked = NULL) {
   check_order(graph)
-  nodes <- nodes_of(graph, all, layout, marked)
+  nodes <- nodes_of(graph, all, look$layout, marked, look$labels, look$palette)
   old <- graphics::par(mar = c(0.5, 0.5, if (is.null(main)) 0.5 else 2, 0.5))
   on.exit(graphics::par(old))
   graphics::plot.new()
@@ -93,20 +99,21 @@ edges_in <- function(graph) sum(vapply(graph$components, function(it) sum(it$edg
 
 # ---- places
 
-# Places in the unit square, in the order of reading for four and on a circle for others.
-default_layout <- function(n) {
-  if (n == 1) return(cbind(0, 0))
+# Places in the order of reading for four, in two rows for gatekeeping, and on a circle for others.
+default_layout <- function(n, graph = NULL) {
   if (n == 2) return(cbind(c(-1, 1), 0))
   if (n == 4) return(cbind(c(-1, 1, -1, 1), c(1, 1, -1, -1)))
-  angle <- pi / 2 - 2 * pi * (seq_len(n) - 1) / n
-  cbind(cos(angle), sin(angle)) * 1.3
+  first <- if (is.null(graph)) 0L else first_row(graph)
+  if (first) row_places(first, n) else circle_places(n)
 }
 
 # The places of the hypotheses; rows with names are put in order by them.
 checked_layout <- function(layout, graph) {
   n <- length(graph$names)
-  if (is.null(layout)) return(default_layout(n))
+  if (is.null(layout)) return(default_layout(n, graph))
+  rows <- if (is.data.frame(layout)) own_row_names(layout) else rownames(layout)
   layout <- as.matrix(layout)
+  rownames(layout) <- rows
   if (!is.numeric(layout) || !identical(dim(layout), c(n, 2L)) || !all(is.finite(layout))) {
     stop_at("layout", "a matrix of numbers is needed with a row of two coordinates for each hypothesis")
   }
@@ -120,14 +127,15 @@ checked_layout <- function(layout, graph) {
 node_radius <- function(at) if (nrow(at) == 1) 0.5 else min(0.5, min(stats::dist(at)) * 0.23)
 
 # What is drawn of each hypothesis: its place, its label, its weights and its colours.
-nodes_of <- function(graph, all, layout, marked) {
+nodes_of <- function(graph, all, layout, marked, labels = all$labels, palette = NULL) {
   at <- checked_layout(layout, all)
   here <- match(all$names, graph$names)
-  fill <- ifelse(is.na(here), fill_removed, fill_plain)
-  if (!is.null(marked)) fill[marked] <- fill_rejected
+  fill <- rep(if (is.null(palette)) fill_plain else palette[1], length(here))
+  fill[is.na(here)] <- if (length(palette) > 1) palette[2] else fill_removed
+  if (!is.null(marked)) fill[marked] <- if (length(palette) > 1) palette[2] else fill_rejected
   weights <- lapply(here, function(i) if (is.na(i)) character() else vapply(graph$components, function(it) it$weights[[i]], ""))
-  list(at = at, radius = node_radius(at), side = label_side(nrow(at), layout), labels = all$labels, weights = weights,
-    here = !is.na(here), fill = fill)
+  side <- if (is.null(layout) && nrow(at) > 4 && first_row(all)) "rows" else label_side(nrow(at), layout)
+  list(at = at, radius = node_radius(at), side = side, labels = labels, weights = weights, here = !is.na(here), fill = fill)
 }
 
 # Points of a picture with the inches that have to be left free around them.

@@ -72,7 +72,7 @@ draw_head <- function(path, colour, cex) {
   end <- path[last, ]
   # on a tiny page it would have no direction
   if (sqrt(sum((end - begin)^2)) < graphics::xinch(0.002)) return(invisible())
-  graphics::arrows(begin[1], begin[2], end[1], end[2], length = 0.1 * cex, angle = 22, col = colour)
+  graphics::arrows(begin[1], begin[2], end[1], end[2], length = head_length * cex, angle = head_angle, col = colour)
 }
 
 # ---- texts
@@ -91,6 +91,7 @@ arrow_boxes <- function(arrows, nodes, plan, cex) {
   around <- rep(0.85 * nodes$radius * unit, 4)
   taken <- boxes_of(free_points(nodes$at, around[1], around[2], around[3], around[4]), unit)
   if (!plan$side %in% c("inside", "rays")) taken <- rbind(taken, boxes_of(plan$labels, unit))
+  taken <- rbind(taken, head_boxes(arrows, unit, cex))
   hidden <- numeric(length(arrows))
   first <- nrow(taken)
   for (i in seq_along(arrows)) {
@@ -102,6 +103,28 @@ arrow_boxes <- function(arrows, nodes, plan, cex) {
   }
   list(boxes = taken[first + seq_along(arrows), , drop = FALSE], hidden = hidden, size = size)
 }
+
+# The rectangles of the heads of arrows, in inches.
+head_boxes <- function(arrows, unit, cex) {
+  boxes <- lapply(arrows, function(it) {
+    rbind(head_box(it$path, unit, cex), if (it$is_double) head_box(it$path[rev(seq_len(nrow(it$path))), ], unit, cex))
+  })
+  do.call(rbind, boxes)
+}
+
+# The corners of a head are at its length from its point, to both sides of the last piece of the path.
+head_box <- function(path, unit, cex) {
+  end <- path[nrow(path), ] * unit
+  back <- path[nrow(path) - 3L, ] * unit - end
+  angle <- atan2(back[2], back[1]) + head_angle * pi / 180 * c(-1, 1)
+  x <- c(end[1], end[1] + head_length * cex * cos(angle))
+  y <- c(end[2], end[2] + head_length * cex * sin(angle))
+  matrix(c(min(x), min(y), max(x), max(y)), 1)
+}
+
+# The inches of the sides of a head, and their angle to the arrow.
+head_length <- 0.1
+head_angle <- 22
 
 # The rectangles at which the text of an arrow can be.
 boxes_along <- function(arrow, unit, size) {

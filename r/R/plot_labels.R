@@ -1,7 +1,7 @@
 # Labels and weights of a picture: in the circles if they have room there, else labels beside them.
 
-# Where labels beside the circles are: below them for places that the user gives, and outwards from the middle for default places. From
-# 13 hypotheses on they run outwards like rays.
+# Where labels beside the circles are: below them for places that the user gives, and outwards from the middle for default places, which
+# of two rows is above and below them. From 13 hypotheses on a circle they run outwards like rays.
 label_side <- function(n, layout) if (!is.null(layout) || n <= 2) "below" else if (n <= 12) "outwards" else "rays"
 
 # The widths in letters to which labels are wrapped at their blanks.
@@ -107,8 +107,9 @@ label_points <- function(nodes, texts, size) {
   angle <- angles_of(at)
   if (nodes$side == "below") return(free_points(cbind(at[, 1], at[, 2] - away), width / 2, width / 2, height, 0))
   if (nodes$side == "rays") return(ray_points(at + away * cbind(cos(angle), sin(angle)), angle, width, height))
-  above <- is_upright(at) & at[, 2] > 0
-  below <- is_upright(at) & !above
+  upright <- if (nodes$side == "rows") rep(TRUE, nrow(at)) else is_upright(at)
+  above <- upright & at[, 2] > 0
+  below <- upright & !above
   left <- !above & !below & at[, 1] < 0
   right <- !above & !below & !left
   place <- at + away * cbind(right - left, above - below)

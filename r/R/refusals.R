@@ -70,14 +70,26 @@ refusal_table <- c(
   "^limit: components " = "Give at most 8 graphs.",
   "^limit: stages " = "Give at most 12 stages.",
   "^limit: spend steps " = "Give a table at most 32 steps.",
-  "^limit: case: part alpha$" = "Alpha has at most four decimals, or is a fraction of whole numbers up to 10,000.",
+  "^limit: case: part alpha$" = paste("Alpha has at most four decimals, or is a fraction of whole numbers up to 10,000. Adjusted p-values",
+    "are the same at each alpha, and can be compared with any level."),
   "^limit: case: part (p of|arrival) " = "Round the p-value up to a fraction whose denominator is at most 10^30.",
-  "^limit: case: part spend of .* stage " = "Choose fractions whose numerators and denominators are at most 10,000, or a table.",
+  "^limit: case: part spend of .* stage " = paste("Give this hypothesis a table of levels by weight, whose numbers have parts up to 10^18:",
+    "rbind(\"1/2\" = c(..), \"1\" = c(..))."),
   "^limit: case: part " = "Write a fraction whose numerator and denominator are at most 10^18.",
   "^limit: .*: digits$" = "Write at most 38 digits, and round a p-value up.",
   "^limit: .*: degree$" = "Use powers of \\epsilon up to 4.",
   "^limit: .*: part$" = "Write the numbers of the edge with numerators and denominators of at most 10^18.",
   "^limit: .*: depth$" = "Open at most 32 parentheses at a time.",
+
+  # evidence that fails
+  "^no: .*: repeated$" = "The step names a hypothesis that an earlier step named.",
+  "^no: .* negative$" = "A flow or an exit is below 0.",
+  "^no: .* exceeds$" = "A flow is more than what arrives at its hypothesis.",
+  "^no: .*: no level$" = "The weight that the flows prove is 0.",
+  "^no: .*: above level$" = "The p-value is above the weight that the flows prove, times alpha.",
+  "^no: .* short$" = "An exit is less than what the edges require.",
+  "^no: .* level above one$" = "The weight that the exits allow is above 1.",
+  "^no: .*: legal$" = "The p-value is at most the weight that the exits allow, times alpha.",
 
   # runs and devices
   "^too wide: " = "Use weights and edges with small common denominators: 1/3 in place of 0.3333333.",
@@ -136,6 +148,13 @@ place_table <- rbind(
   c("^no hypothesis$", "hypotheses", "there is none")
 )
 
+# The same of a number whose parts are too large, where the sentence above would name another cause.
+limit_table <- rbind(
+  c("^spend of (\\S+) stage (\\S+)$", "levels", "the level of %s at stage # is a fraction of alpha with parts above 10,000"),
+  c("^step (\\S+) of (\\S+)$", "levels", "row # of %s has a number with too large parts"),
+  c("^arrival (\\S+)$", "looks", "the p-value of row # has too large parts")
+)
+
 # Left: whole lines, or their beginnings. Right: the argument, and what it is about.
 argument_table <- rbind(
   c("^limit: hypotheses ", "hypotheses", "there are too many"),
@@ -156,9 +175,10 @@ where_of <- function(line, case) {
   if (is.null(case$graph)) return(source_of(line, case))
   if (grepl("^(malformed|limit): line [0-9]+: ", line)) return(where_in_text(line, case))
   rest <- sub("^(malformed: case|limit: case: part|limit: case): ?(part )?", "", line)
-  for (i in seq_len(if (identical(rest, line)) 0 else nrow(place_table))) {
-    found <- regmatches(rest, regexec(place_table[i, 1], rest, perl = TRUE))[[1]]
-    if (length(found)) return(paste0(place_table[i, 2], ": ", filled(place_table[i, 3], found[-1], case$graph), value_at(rest, case)))
+  rows <- rbind(if (startsWith(line, "limit: ")) limit_table, place_table)
+  for (i in seq_len(if (identical(rest, line)) 0 else nrow(rows))) {
+    found <- regmatches(rest, regexec(rows[i, 1], rest, perl = TRUE))[[1]]
+    if (length(found)) return(paste0(rows[i, 2], ": ", filled(rows[i, 3], found[-1], case$graph), value_at(rest, case)))
   }
   at <- which(vapply(argument_table[, 1], grepl, NA, x = line))
   if (length(at)) paste0(argument_table[at[1], 2], ": ", argument_table[at[1], 3]) else ""
@@ -206,7 +226,7 @@ where_in_text <- function(line, case) {
   switch(words[1],
     alpha = sprintf("alpha: the level is %s", quoted(given[1])),
     hypotheses = "hypotheses: the names",
-    p = if (length(given)) sprintf("p: the p-value of %s is %s", case$graph$labels[at], quoted(given[at])) else "p: it has no number",
+    p = if (length(given)) sprintf("p: the p-value of %s is %s", case$graph$labels[at], quoted(given[at])) else "p: no p-values are given",
     component = sprintf("shares: a share is %s", quoted(given[1])),
     weights = sprintf("hypotheses: the weight of %s is %s", case$graph$labels[at], quoted(given[at])),
     edge = sprintf("transitions: the edge from %s to %s is %s", named(1), named(2), quoted(paste(given[-(1:2)], collapse = " "))),
@@ -245,7 +265,7 @@ has_many_digits <- function(word) {
 # The sentences with the amount of a sum above its bound, and the doubles beside fractions in it; "" for any other line.
 amount_of <- function(line, case) {
   graph <- case$graph
-  if (line == "limit: case: part alpha") return(sentence_of(beside_sentences(alpha_of(case))))
+  if (line == "limit: case: part alpha") return(sentence_beside_alpha(alpha_of(case)))
   if (is.null(graph) || !grepl("^malformed: case: (share|weight|row|spend) sum", line)) return("")
   words <- strsplit(sub("^malformed: case: ", "", line), " ", fixed = TRUE)[[1]]
   component <- graph$components[[if ("component" %in% words) as.integer(words[length(words)]) else 1L]]
@@ -263,7 +283,19 @@ doubles_in <- function(graph) graph$read$read[graph$read$rule == "shortest decim
 
 sentence_of <- function(parts) if (length(parts)) paste0(listed(parts, 3L), ".") else ""
 
-alpha_of <- function(case) words_after(strsplit(as_text_of(case$text), "\n", fixed = TRUE)[[1]], "alpha")
+# The fraction beside a level that was computed, such as 1 - 0.975.
+sentence_beside_alpha <- function(alpha) {
+  sentences <- beside_sentences(alpha)
+  if (length(sentences)) return(sentence_of(sentences))
+  near <- small_fractions(double_of(alpha), 1e-12)
+  if (length(alpha) != 1 || is.na(near$d)) "" else paste0(quotient_of(near$n, near$d), " is beside it.")
+}
+
+# The level of a case, which a sheet has beside it.
+alpha_of <- function(case) {
+  if (!is.null(case[["level"]])) return(level_of(case[["level"]]))
+  words_after(strsplit(as_text_of(case$text), "\n", fixed = TRUE)[[1]], "alpha")
+}
 
 # `texts` are the terms, `argument` is what they were given for, and `doubles` are those that were given as doubles.
 sum_sentence <- function(what, texts, bound = gmp::as.bigq(1), argument = NULL, doubles = character()) {

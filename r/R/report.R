@@ -1,23 +1,31 @@
 # Pages about decisions. The script report.py of Welungad's installation makes them, and asks the program itself. It is the one part
 # of the package that needs python3.
 
-graph_report <- function(x, file, p = NULL, alpha = 0.025, title = NULL) {
+graph_report <- function(x, file, p = NULL, alpha = 0.025, title = NULL, protocol = NULL, data_cut = NULL, author = NULL) {
   x <- decided(x, p, alpha, missing(alpha))
   file <- one_text(file, "file")
-  title <- enc2utf8(if (is.null(title)) format(x) else one_text(title, "title"))
-  # its bytes are handed over as they are, also in a locale that is not UTF-8
-  Encoding(title) <- "unknown"
+  facts <- c(option_of("title", if (is.null(title)) format(x) else title), option_of("protocol", protocol), option_of("data_cut", data_cut),
+    option_of("author", author))
   room <- tempfile("welungad-")
   dir.create(room)
   on.exit(unlink(room, recursive = TRUE))
-  words <- c(write_decided(x, room), paste0("--title=", title), paste0("--out=", path.expand(file)))
+  words <- c(write_decided(x, room), facts, paste0("--out=", path.expand(file)))
   run_script("report.py", words)
   invisible(normalizePath(file))
 }
 
+# The word of the script's call that gives a text of the page; none if it is left out. The bytes of the text are handed over as they are, also
+# in a locale that is not UTF-8.
+option_of <- function(name, text) {
+  if (is.null(text)) return(NULL)
+  text <- enc2utf8(one_text(text, name))
+  Encoding(text) <- "unknown"
+  paste0("--", sub("_", "-", name), "=", text)
+}
+
 # The decision that a page is about: a result, or that of a graph on p-values.
 decided <- function(x, p, alpha, is_default) {
-  if (inherits(x, "welungad_graph")) {
+  if (is_any_graph(x)) {
     if (is.null(p)) stop_at("p", "a graph is reported with p-values: give them, or a result of graph_test or graph_stages")
     return(graph_test(x, p, alpha))
   }
@@ -25,6 +33,7 @@ decided <- function(x, p, alpha, is_default) {
     stop_at("x", "a result of graph_test or graph_stages is needed, or a graph and p-values")
   }
   if (!is.null(p) || !is_default) stop_at(if (is.null(p)) "alpha" else "p", "a result has its own, and is reported as it is")
+  check_result(x)
   x
 }
 

@@ -1,78 +1,90 @@
 # All intersections: weights, verdicts and bounds of true discoveries.
 
-set_text <- function(sets, graph, gap = ", ") vapply(sets, function(set) paste(graph$labels[set], collapse = gap), "")
+set_text <- function(sets, labels, gap = ", ") vapply(sets, function(set) paste(labels[set], collapse = gap), "")
 
-graph_test_closure <- function(graph, p, alpha = 0.025) {
+graph_test_closure <- function(graph, p, alpha = 0.025, test = c("bonferroni", "simes")) {
+  test <- if (missing(test)) "bonferroni" else chosen_test(test)
   case <- case_of(graph, p, alpha)
-  bounds <- ask("bounds", case)
+  proved <- ask(if (test == "simes") "simes" else "bounds", case)
   weights <- ask("weights", case)
-  sets <- weights$sets
-  bound <- bounds$bound[match(codes_of(sets), codes_of(bounds$sets))]
   read <- ask("canon", case)
-  legal <- legal_members(sets, weights$weights, read)
-  local <- as.vector(rowsum(as.integer(legal), rep(seq_along(sets), lengths(sets)), reorder = FALSE)) > 0
-  closed <- bound >= 1
-  n <- length(graph$names)
-  hold_verdicts(sets, local, closed, n)
-  texts <- matrix(NA_character_, length(sets), n, dimnames = list(NULL, graph$labels))
-  texts[cbind(rep(seq_along(sets), lengths(sets)), unlist(sets))] <- unlist(weights$weights)
+  found <- closed_levels(weights, read$p, read$alpha, test)
+  bound <- proved$bound[match(weights$codes, proved$codes)]
+  hold_verdicts(weights$sets, found$local, bound >= 1L, length(case$graph$names), weights$codes)
+  new_closure(case, test, weights, bound, found, read)
+}
+
+# The sets of a closed test, in the order of the program, with their verdicts and the least levels at which they are rejected.
+new_closure <- function(case, test, weights, bound, found, read) {
+  labels <- case$graph$labels
+  single <- match(2^(seq_along(labels) - 1), weights$codes)
+  adjusted <- found$p_closed[single]
+  is_compared <- test == "bonferroni" && hold_adjusted(case, adjusted, found$reached[single])
+  named <- function(values) stats::setNames(values, labels)
   structure(list(
-    graph = graph,
+    graph = case$graph,
+    test = test,
     alpha = read$alpha,
-    p = stats::setNames(unname(read$p), graph$labels),
-    sets = sets,
-    weights = texts,
-    local = local,
-    closed = closed,
+    p = named(unname(read$p)),
+    sets = weights$sets,
+    weights = matrix(weights$texts[weights$weights], nrow(weights$weights), dimnames = list(NULL, labels)),
+    local = found$local,
+    closed = bound >= 1L,
     bound = bound,
-    rejected = stats::setNames(closed[match(2^(seq_len(n) - 1), codes_of(sets))], graph$labels),
+    p_local = found$p_local,
+    p_closed = found$p_closed,
+    rejected = named(bound[single] >= 1L),
+    adjusted = named(adjusted_doubles(adjusted, bound[single] >= 1L, read$alpha)),
+    reached = named(found$reached[single]),
+    compared = is_compared,
+    read = case$p,
     case = case$text
   ), class = "welungad_closure")
 }
 
-# Whether each member of each set, one after the other, has a weight above 0 and a p-value of at most its weight times the level.
-# Pairs of a member and a weight that occur more than once are compared once.
-legal_members <- function(sets, weights, read) {
-  member <- unlist(sets)
-  weight <- unlist(weights)
-  pairs <- paste(member, weight)
-  once <- !duplicated(pairs)
-  values <- fraction(weight[once])
-  p <- fraction(unname(read$p))[member[once]]
-  legal <- as.logical(values > 0) & as.logical(p <= values * fraction(rep(read$alpha, sum(once))))
-  legal[match(pairs, pairs[once])]
+# Stops if an adjusted p-value is not the one that the proved call prints; returns whether it prints them.
+hold_adjusted <- function(case, adjusted, reached) {
+  report <- tryCatch(ask("test", case), welungad_refusal = function(refusal) NULL)
+  if (is.null(report)) return(FALSE)
+  if (!identical(report$reached, reached) || !all(fraction(report$adjusted) == fraction(adjusted))) stop_unlike("adjusted p-values")
+  TRUE
+}
+
+stop_unlike <- function(what) {
+  stop("the ", what, " here are not those of the proved call: don't use this package, and report the graph", call. = FALSE)
 }
 
 # Stops if the verdicts here differ from those of the proved call: it rejects exactly the sets all of whose supersets are
 # locally rejected.
-hold_verdicts <- function(sets, local, closed, n) {
-  codes <- codes_of(sets)
-  by_code <- logical(2L^n)
-  by_code[codes + 1] <- local
-  whole <- by_code
-  for (i in seq_len(n)) {
-    out <- bitwAnd(seq_len(2L^n) - 1L, bitwShiftL(1L, i - 1L)) == 0
-    whole[out] <- whole[out] & whole[which(out) + 2L^(i - 1L)]
-  }
-  if (!identical(whole[codes + 1], closed)) {
-    stop("the verdicts here are not those of the proved call: don't use this package, and report the graph", call. = FALSE)
-  }
+hold_verdicts <- function(sets, local, closed, n, codes = codes_of(sets)) {
+  lost <- over_supersets(as.integer(!local), codes, n)
+  if (!identical(lost == 0L, closed)) stop_unlike("verdicts")
 }
 
 as.data.frame.welungad_closure <- function(x, ..., exact = FALSE) {
+  check_dots(..., allowed = frame_arguments)
+  check_result(x)
   weights <- x$weights
   filled <- !is.na(weights)
-  once <- unique(weights[filled])
-  at <- match(weights[filled], once)
+  # pairs of a hypothesis and a weight, each once
+  pairs <- paste(col(weights)[filled], weights[filled])
+  first <- which(!duplicated(pairs))
+  at <- match(pairs, pairs[first])
+  once <- weights[filled][first]
   level <- as.character(fraction(once) * fraction(rep(x$alpha, length(once))))
-  number <- if (exact) identity else double_of
-  matrix_of <- function(values, what) {
+  member <- col(weights)[filled][first]
+  shown <- if (exact) list(weight = once, level = level) else list(weight = double_of(once),
+    level = passing_doubles(unname(x$read)[member], unname(x$p)[member], level)$level)
+  matrix_of <- function(what) {
+    values <- shown[[what]]
     out <- matrix(values[NA_integer_], nrow(weights), ncol(weights), dimnames = list(NULL, paste(what, x$graph$labels)))
     out[filled] <- values[at]
     out
   }
-  data.frame(intersection = set_text(x$sets, x$graph), matrix_of(number(once), "weight"), matrix_of(number(level), "level"),
-    local = x$local, closed = x$closed, bound = x$bound, check.names = FALSE, stringsAsFactors = FALSE)
+  data.frame(intersection = set_text(x$sets, x$graph$labels), matrix_of("weight"), matrix_of("level"), local = x$local, closed = x$closed,
+    bound = x$bound, p_local = if (exact) x$p_local else adjusted_doubles(x$p_local, x$local, x$alpha),
+    p_closed = if (exact) x$p_closed else adjusted_doubles(x$p_closed, x$closed, x$alpha), check.names = FALSE,
+    stringsAsFactors = FALSE)
 }
 
 # Some of the sets.
@@ -80,7 +92,7 @@ as.data.frame.welungad_closure <- function(x, ..., exact = FALSE) {
   at <- places_of_sets(x, i)
   x$sets <- x$sets[at]
   x$weights <- x$weights[at, , drop = FALSE]
-  for (part in c("local", "closed", "bound")) x[[part]] <- x[[part]][at]
+  for (part in c("local", "closed", "bound", "p_local", "p_closed")) x[[part]] <- x[[part]][at]
   x
 }
 
@@ -111,17 +123,21 @@ summary.welungad_closure <- function(object, ...) {
 }
 
 print.welungad_closure <- function(x, exact = FALSE, digits = 4, most = 64, ...) {
-  cat(format(x), "\n", sep = "")
+  check_dots(...)
   rest <- length(x$sets) - most
+  sets <- if (rest > 0) x$sets[seq_len(most)] else x$sets
   table <- as.data.frame(if (rest > 0) x[seq_len(most)] else x, exact = exact)
+  cat(format(x), "\n", sep = "")
   levels <- vapply(table[startsWith(names(table), "level ")], shown, character(nrow(table)), digits = digits)
   verdict <- function(rejects) ifelse(rejects, "rejected", "retained")
-  texts <- cbind(table$intersection, matrix(levels, nrow(table)), verdict(table$local), verdict(table$closed))
-  colnames(texts) <- c("intersection", paste("level", x$graph$labels), "local", "closed")
-  texts[is.na(texts)] <- ""
-  write_table(texts)
+  write_labelled(x$graph$labels, function(labels) {
+    texts <- cbind(set_text(sets, labels), matrix(levels, nrow(table)), verdict(table$local), verdict(table$closed))
+    colnames(texts) <- c("intersection", paste("level", labels), "local", "closed")
+    texts
+  })
   if (rest > 0) cat("  and ", count_of(rest, "more intersection"), ", which as.data.frame has\n", sep = "")
   print_rejected(x)
+  print_notes(c(bound_notes(x), zero_notes(x$read, x$graph$labels)))
   invisible(x)
 }
 
@@ -134,10 +150,19 @@ graph_bounds <- function(graph, p, alpha = 0.025) {
 
 graph_simes <- function(graph, p, alpha = 0.025) {
   case <- case_of(graph, p, alpha)
+  graph <- case$graph
   report <- ask("simes", case)
+  weights <- ask("weights", case)
+  found <- closed_levels(weights, case$p$read, case$alpha$read, "simes")
+  hold_verdicts(weights$sets, found$local, report$bound[match(weights$codes, report$codes)] >= 1L, length(graph$names), weights$codes)
+  single <- match(2^(seq_along(graph$names) - 1), weights$codes)
   out <- new_bounds(report, case, "Simes")
   out$top <- report$top
   out$rejected <- stats::setNames(report$rejected, graph$labels)
+  out$adjusted <- stats::setNames(adjusted_doubles(found$p_closed[single], report$rejected, case$alpha$read), graph$labels)
+  out$reached <- stats::setNames(found$reached[single], graph$labels)
+  out$exact <- table_of(hypothesis = graph$labels, p = case$p$read, adjusted = found$p_closed[single])
+  class(out) <- c("welungad_simes", class(out))
   out
 }
 
@@ -148,6 +173,7 @@ new_bounds <- function(report, case, test) {
     test = test,
     sets = report$sets,
     bound = report$bound,
+    read = case$p,
     case = case$text
   ), class = "welungad_bounds")
 }
@@ -162,7 +188,9 @@ bound_of <- function(x, hypotheses) {
 }
 
 as.data.frame.welungad_bounds <- function(x, ...) {
-  data.frame(set = set_text(x$sets, x$graph), size = lengths(x$sets), bound = x$bound, stringsAsFactors = FALSE)
+  check_dots(..., allowed = c(frame_arguments, "exact"))
+  check_result(x)
+  data.frame(set = set_text(x$sets, x$graph$labels), size = lengths(x$sets), bound = x$bound, stringsAsFactors = FALSE)
 }
 
 # Some of the sets.
@@ -182,16 +210,37 @@ summary.welungad_bounds <- function(object, ...) {
   table(size = lengths(object$sets), bound = object$bound)
 }
 
+# The rejected hypotheses of Simes' closed test, with their adjusted p-values.
+summary.welungad_simes <- function(object, ...) {
+  at <- which(object$rejected)
+  check_result(object)
+  rejections <- data.frame(hypothesis = object$graph$labels[at], p = given_doubles(object$read)[at], adjusted = unname(object$adjusted[at]),
+    stringsAsFactors = FALSE)
+  structure(list(head = paste("Closed test of weighted Simes tests at level", level_text(object$alpha)), rejections = rejections,
+    hypotheses = length(object$rejected)), class = "welungad_summary")
+}
+
 print.welungad_bounds <- function(x, most = 64, ...) {
-  cat(format(x), "\n", sep = "")
+  check_dots(...)
   rest <- length(x$sets) - most
   table <- as.data.frame(if (rest > 0) x[seq_len(most)] else x)
-  write_table(cbind(set = table$set, size = table$size, bound = table$bound))
+  cat(format(x), "\n", sep = "")
+  sets <- if (rest > 0) x$sets[seq_len(most)] else x$sets
+  write_labelled(x$graph$labels, function(labels) cbind(set = set_text(sets, labels), size = table$size, bound = table$bound))
   if (rest > 0) cat("  and ", count_of(rest, "more set"), ", which as.data.frame has\n", sep = "")
-  if (!is.null(x$top)) {
+  if (inherits(x, "welungad_simes")) {
     bounds <- paste(x$top, collapse = " ")
     cat("Bounds of the hypotheses with the least p-values, 1 to ", length(x$top), ": ", bounds, "\n", sep = "")
     print_rejected(x)
   }
+  print_notes(c(bound_notes(x), zero_notes(x$read, x$graph$labels)))
   invisible(x)
+}
+
+# Notes on p-values beside fractions, with which there would be other bounds.
+bound_notes <- function(x) {
+  command <- if (tolower(x$test) == "simes") "simes" else "bounds"
+  other_decisions(x$read, x$graph$labels, function(read) {
+    ask(command, handed(case_text(x$graph, x$alpha, number_texts(read, "p")), x$graph))$bound
+  })
 }

@@ -1,25 +1,33 @@
 # Studies: looks that are kept in a file. The file has positions of hypotheses and no names, so the canonical text of the case is
-# kept beside it, and a case with another text is refused. So are labels that are not the program's names.
+# kept beside it, and a case with another text is refused. So are labels that are not the program's names. How many looks were kept
+# stands there too, so that a file that is lost does not begin anew.
 
-graph_study <- function(case, store, looks = NULL) {
+graph_study <- function(case, store, looks = NULL, refused = c("stop", "keep")) {
+  refused <- chosen(refused, c("stop", "keep"), "refused")
   text <- study_text(case)
   canon <- program_answer("canon", handed(text$text, text$graph, source = "case: the text"))
   graph <- if (is.null(text$graph)) graph_of_case(canon) else text$graph
   if (length(canon$stages) == 0) stop_at("case", "a study has a staged case")
   if (any(startsWith(canon$stages, "arrive "))) stop_at("case", "a study begins without looks: they are given to `looks`")
   store <- checked_store(store)
-  looks <- read_looks(graph, looks)
+  looks <- read_looks(graph, looks, text$stages)
   hold_case(canon$lines, store)
   hold_labels(graph, store)
-  commands <- c(if (nrow(looks)) paste("look", looks$name, whole_text(looks$stage), looks$read), "show")
-  new_study(graph, store, looks, run_study(handed(text$text, graph, looks = looks), store, commands))
+  case <- handed(text$text, graph, looks = looks)
+  trial <- tried(case, store, looks$read)
+  hold_count(store, trial$records)
+  if (refused == "stop") hold_looks(new_study(graph, store, looks, trial)$refused, looks)
+  notes <- other_decisions(looks$read, looks$label, function(read) tried(case, store, read)$rejects)
+  report <- run_study(case, store, looks$read)
+  write_count(store, report$taken)
+  new_study(graph, store, looks, report, notes)
 }
 
 # The text of a case, and its graph if it is known.
 study_text <- function(case) {
   if (inherits(case, "welungad_stages")) {
     check_unchanged(case)
-    return(list(text = case$case, graph = case$graph))
+    return(list(text = case$case, graph = case$graph, stages = case$plan$stages))
   }
   if (!is.character(case) && !is.raw(case)) stop_at("case", "a result of graph_stages, or the text of a case is needed")
   bytes <- bytes_of(case, "case")
@@ -29,12 +37,8 @@ study_text <- function(case) {
 
 # Stops if a staged test was changed by hand, since its text alone is read.
 check_unchanged <- function(x) {
-  check_parts(x, c("graph", "alpha", "plan", "looks", "rejections", "rejected", "case", "report"), "a staged test", "case")
-  alpha <- words_after(strsplit(x$case, "\n", fixed = TRUE)[[1]], "alpha")
-  own <- graph_text(x$graph)
-  is_same <- isTRUE(as.logical(fraction(alpha) == fraction(as.character(x$alpha)))) &&
-    startsWith(x$case, paste0("alpha ", alpha, "\n", own$head, own$body))
-  if (!is_same) stop_at("case", "its level or its graph was changed: call graph_stages with the new one")
+  check_parts(x, c("graph", "alpha", "plan", "looks", "rejections", "rejected", "read", "case", "report"), "a staged test", "case")
+  if (!is_case_of(x)) stop_at("case", "its level or its graph was changed: call graph_stages with the new one")
 }
 
 graph_of_case <- function(case) list(names = case$names, labels = case$names)
@@ -61,6 +65,7 @@ hold_case <- function(lines, store) {
     if (file.exists(store)) {
       stop_at("store", store, " has no ", place, " beside it, so it is not known for which case it was made")
     }
+    write_count(store, 0L)
     write_new(charToRaw(paste0(lines, "\n", collapse = "")), place)
   }
   known <- read_beside(place, function(place) readLines(place, warn = FALSE, encoding = "UTF-8"))
@@ -69,6 +74,68 @@ hold_case <- function(lines, store) {
     stop_at("store", basename(store), " was made for a case with ",
       if (identical(own, words_after(lines, "hypotheses"))) difference_of(known, lines) else paste("hypotheses", paste(own, collapse = " ")))
   }
+}
+
+# ---- how many looks were kept
+
+count_file <- function(store) paste0(store, ".kept")
+
+# How many looks were kept, as it stands beside the file of looks; NA if nothing says so, as of a file of an earlier release.
+count_of_looks <- function(store) {
+  place <- count_file(store)
+  if (!file.exists(place)) return(NA_integer_)
+  line <- read_beside(place, function(place) readLines(place, n = 1L, warn = FALSE))
+  if (length(line) != 1 || !is_whole(line)) stop_at("store", place, " does not say how many looks were kept")
+  as.integer(line)
+}
+
+# Writes how many looks are kept, as a whole.
+write_count <- function(store, count) {
+  place <- count_file(store)
+  part <- tempfile("welungad-", dirname(place))
+  on.exit(unlink(part))
+  write_whole(charToRaw(paste0(whole_text(count), "\n")), part)
+  file.rename(part, place)
+}
+
+# Stops if the file of looks is not there, or has fewer looks than were kept in it.
+hold_count <- function(store, found) {
+  kept <- count_of_looks(store)
+  if (!file.exists(store) && !identical(kept, 0L)) {
+    stop_at("store", store, " is not there, and ", case_file(store), " is: ",
+      if (is.na(kept)) "the looks that were kept are" else if (kept == 1) "the look that was kept is" else paste("the", kept, "looks that were kept are"),
+      " lost unless it is put back. To begin anew, remove the files beside it")
+  }
+  if (!is.na(kept) && found < kept) {
+    stop_at("store", store, " has ", count_of(found, "look"), ", and ", whole_text(kept), " were kept: it is another file, or an earlier copy")
+  }
+}
+
+# ---- looks that are not taken
+
+# The answer to looks on a copy of the file of looks, which itself stays as it is.
+tried <- function(case, store, read) {
+  room <- tempfile("welungad-")
+  dir.create(room)
+  on.exit(unlink(room, recursive = TRUE))
+  copy <- file.path(room, "looks")
+  for (end in c("", "-wal")) if (file.exists(paste0(store, end)) && !file.copy(paste0(store, end), paste0(copy, end))) {
+    stop_at("store", paste0(store, end), " can't be read")
+  }
+  run_study(case, copy, read)
+}
+
+reasons <- c(stage = "there is no such stage", known = "a p-value of it at this stage is kept already",
+  range = "its p-value is not from 0 to 1, with a denominator up to 10^30")
+
+# Stops if a look would not be taken, before any is.
+hold_looks <- function(refused, looks) {
+  if (nrow(refused) == 0) return(invisible())
+  why <- ifelse(refused$why %in% names(reasons), reasons[refused$why], refused$why)
+  given <- ifelse(refused$why == "range", paste0(" (", looks$read$given[refused$row], ")"), "")
+  texts <- paste0("row ", refused$row, ", ", refused$hypothesis, " at stage ", refused$stage, ": ", why, given)
+  stop(structure(class = c("welungad_looks_refused", "error", "condition"), list(refused = refused, call = NULL,
+    message = paste0("looks: not taken, so none of this call is: ", listed(texts, 4L), ". With refused = \"keep\" the others are"))))
 }
 
 # Stops if the file of looks was made for other labels: names that are made of labels can be those of others. Labels that are the
@@ -122,14 +189,17 @@ program_answer <- function(words, case) {
   ask(words, case)
 }
 
-run_study <- function(case, store, commands) {
+# The answer to looks with these p-values, and to `show` after them.
+run_study <- function(case, store, read) {
+  looks <- case$looks
+  commands <- c(if (length(read)) paste("look", looks$name, whole_text(looks$stage), read$read), "show")
   file <- tempfile("welungad-commands-")
   on.exit(unlink(file))
   write_whole(charToRaw(paste0(commands, "\n", collapse = "")), file)
   program_answer(c("study", file, paste0("--store=", store)), case)
 }
 
-new_study <- function(graph, store, looks, report) {
+new_study <- function(graph, store, looks, report, notes = character()) {
   labelled_rows <- function(columns) label_of(columns[2, ], graph)
   refused <- as.integer(sub(":$", "", report$refused[2, ]))
   structure(list(
@@ -143,17 +213,22 @@ new_study <- function(graph, store, looks, report) {
       stage = as.integer(report$rejects[4, ]), weight = report$rejects[6, ]),
     refused = table_of(row = refused, hypothesis = looks$label[refused], stage = looks$stage[refused], why = report$refused[3, ]),
     rejected = stats::setNames(report$rejected, graph$labels),
+    notes = c(notes, zero_notes(looks$read, looks$label)),
     report = report$lines
   ), class = "welungad_study")
 }
 
-as.data.frame.welungad_study <- function(x, ...) x$looks
+as.data.frame.welungad_study <- function(x, ...) {
+  check_dots(..., allowed = frame_arguments)
+  x$looks
+}
 
 format.welungad_study <- function(x, ...) {
   paste0("Study of ", count_of_hypotheses(length(x$graph$names)), " in ", x$store, ", level ", level_text(x$alpha))
 }
 
 print.welungad_study <- function(x, digits = 6, ...) {
+  check_dots(...)
   cat(format(x), "\n", sep = "")
   cat("Looks: ", x$records, " before this call, ", x$taken, " now\n", sep = "")
   table <- x$rejections
@@ -167,5 +242,6 @@ print.welungad_study <- function(x, digits = 6, ...) {
       x$refused$why[i], "\n", sep = "")
   }
   print_rejected(x)
+  print_notes(x$notes)
   invisible(x)
 }

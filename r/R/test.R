@@ -10,25 +10,23 @@ graph_test <- function(graph, p, alpha = 0.025, priority = c("first", "last", "r
 
 # The report of `test` as a result.
 new_test <- function(report, priority, case) {
-  graph <- case$graph
-  labels <- graph$labels
-  adjusted <- double_of(report$adjusted)
+  result <- c(list(graph = case$graph, alpha = report$alpha, priority = priority), report_parts(report, case$graph$labels),
+    list(read = case$p, case = case$text, report = report$lines))
+  class(result) <- "welungad_test"
+  result
+}
+
+# The parts of a result that its report has.
+report_parts <- function(report, labels) {
+  adjusted <- adjusted_doubles(report$adjusted, report$rejected, report$alpha)
   names(report$rejected) <- names(report$reached) <- names(adjusted) <- labels
-  result <- list(
-    graph = graph,
-    alpha = report$alpha,
-    priority = priority,
+  list(
     rejected = report$rejected,
     adjusted = adjusted,
     reached = report$reached,
     order = labels[report$order],
-    exact = table_of(hypothesis = labels, p = report$p, weight = report$weight, adjusted = report$adjusted),
-    read = case$p,
-    case = case$text,
-    report = report$lines
+    exact = table_of(hypothesis = labels, p = report$p, weight = report$weight, adjusted = report$adjusted)
   )
-  class(result) <- "welungad_test"
-  result
 }
 
 # A data frame of columns of one length, without the checks that take data.frame its time.
@@ -42,15 +40,18 @@ table_of <- function(...) {
 # A row for each hypothesis: its p-value, its weight and local level when it was rejected or in the end, and its adjusted
 # p-value.
 as.data.frame.welungad_test <- function(x, ..., exact = FALSE) {
-  number <- if (exact) identity else double_of
+  check_dots(..., allowed = frame_arguments)
+  check_result(x)
+  level <- levels_of(x)
+  shown <- if (exact) list(p = x$exact$p, level = level) else passing_doubles(x$read, x$exact$p, level)
   data.frame(
     hypothesis = x$graph$labels,
-    p = number(x$exact$p),
-    weight = number(x$exact$weight),
-    level = number(levels_of(x)),
+    p = shown$p,
+    weight = if (exact) x$exact$weight else double_of(x$exact$weight),
+    level = shown$level,
     rejected = unname(x$rejected),
     step = match(x$exact$hypothesis, x$order),
-    adjusted = number(x$exact$adjusted),
+    adjusted = if (exact) x$exact$adjusted else unname(x$adjusted),
     reached = unname(x$reached),
     stringsAsFactors = FALSE
   )
@@ -93,19 +94,18 @@ summary.welungad_test <- function(object, ...) {
 }
 
 print.welungad_summary <- function(x, digits = 6, ...) {
+  check_dots(...)
   cat(x$head, "\n", sep = "")
   cat(nrow(x$rejections), "of", x$hypotheses, "are rejected\n")
   table <- x$rejections
-  if (nrow(table)) {
-    write_table(cbind(step = table$step, hypothesis = table$hypothesis, p = shown(table$p, digits),
-      weight = shown(table$weight, digits), level = shown(table$level, digits)))
-  }
+  if (nrow(table)) write_table(do.call(cbind, lapply(table, function(it) if (is.double(it)) shown(it, digits) else it)))
   invisible(x)
 }
 
 print.welungad_test <- function(x, exact = FALSE, digits = 6, ...) {
-  cat(format(x), "\n", sep = "")
+  check_dots(...)
   table <- as.data.frame(x, exact = exact)
+  cat(format(x), "\n", sep = "")
   write_table(cbind(
     hypothesis = table$hypothesis,
     p = shown(table$p, digits),
@@ -121,7 +121,7 @@ print.welungad_test <- function(x, exact = FALSE, digits = 6, ...) {
     cat("The p-value of ", paste(close, collapse = ", "), " and its level agree in the digits shown; ",
       "print(x, exact = TRUE) shows the fractions.\n", sep = "")
   }
-  for (note in tie_notes(x)) cat(strwrap(note, width = 100, exdent = 2), sep = "\n")
+  print_notes(c(tie_notes(x), zero_notes(x$read, x$graph$labels)))
   print_read(as_read(x$read))
   invisible(x)
 }
@@ -143,21 +143,18 @@ near_ties <- function(x, digits) {
 
 # A sentence for each p-value that is a double beside a fraction, on the other side of its level than the fraction.
 tie_notes <- function(x) {
-  doubles <- which(x$read$rule == "shortest decimal")
-  found <- beside(x$read$read[doubles])
-  has <- !is.na(found$fraction)
-  at <- doubles[has]
+  near <- beside_doubles(x$read)
+  at <- near$at
   if (length(at) == 0) return(character())
   level <- levels_of(x)[at]
-  meant <- found$fraction[has]
-  decides <- as.logical(fraction(x$exact$p[at]) <= fraction(level)) != as.logical(fraction(meant) <= fraction(level))
+  decides <- as.logical(fraction(x$exact$p[at]) <= fraction(level)) != as.logical(fraction(near$fraction) <= fraction(level))
   sprintf("The p-value %s of %s is %s %s; its level is %s, and the p-value %s would be on the other side of it.",
-    x$read$given[at], x$graph$labels[at], units_text_of(found$units[has]), meant, level, meant)[decides]
+    x$read$given[at], x$graph$labels[at], units_text_of(near$units), near$fraction, level, near$fraction)[decides]
 }
 
 units_text_of <- function(units) vapply(units, units_text, "")
 
 print_rejected <- function(x) {
-  labels <- x$graph$labels[x$rejected]
+  labels <- one_line(x$graph$labels[x$rejected])
   cat("Rejected: ", if (length(labels)) paste(labels, collapse = ", ") else "none", "\n", sep = "")
 }

@@ -43,8 +43,11 @@ listed <- function(texts, most = 10L) {
   paste(texts, collapse = ", ")
 }
 
-# Texts cut for display.
-shortened <- function(text) ifelse(is.na(text) | nchar(text) <= 60, text, paste0(substr(text, 1, 40), ".."))
+# Texts cut for display, unless two of them would then be alike.
+shortened <- function(text) {
+  short <- ifelse(is.na(text) | nchar(text) <= 60, text, paste0(substr(text, 1, 40), ".."))
+  if (anyDuplicated(unique(text)) == 0 && length(unique(short)) == length(unique(text))) short else text
+}
 
 # Stops with an error that names the argument.
 stop_at <- function(what, ...) stop(what, ": ", ..., call. = FALSE)
@@ -86,11 +89,37 @@ is_whole <- function(x) {
 is_number <- function(x) is.numeric(x) && !inherits(x, "integer64")
 
 # Writes a matrix of texts in columns, the first flush left and the others flush right.
-write_table <- function(texts) {
+write_table <- function(texts) cat(table_lines(texts), sep = "\n")
+
+table_lines <- function(texts) {
   all <- rbind(colnames(texts), unname(texts))
   all[is.na(all)] <- ""
+  all[] <- one_line(all)
   columns <- lapply(seq_len(ncol(all)), function(j) {
     formatC(all[, j], width = max(nchar(all[, j])), flag = if (j == 1) "-" else "")
   })
-  cat(sub(" +$", "", paste0("  ", do.call(paste, c(columns, sep = "  ")))), sep = "\n")
+  sub(" +$", "", paste0("  ", do.call(paste, c(columns, sep = "  "))))
+}
+
+# Texts of which each is one line: a line break is shown as \\n.
+one_line <- function(texts) gsub("\t", "\\t", gsub("\r", "\\r", gsub("\n", "\\n", texts, fixed = TRUE), fixed = TRUE), fixed = TRUE)
+
+# Writes a table that `make` makes of labels. If it is wider than a line, it has short tags in their place, with one list of them below.
+write_labelled <- function(labels, make) {
+  lines <- table_lines(make(labels))
+  tags <- tags_for(labels)
+  if (max(nchar(lines)) > getOption("width") && max(nchar(labels)) > max(nchar(tags))) {
+    lines <- c(table_lines(make(tags)), strwrap(paste0(tags, ": ", one_line(labels)), getOption("width"), indent = 2, exdent = 6))
+  }
+  cat(lines, sep = "\n")
+}
+
+# Tags for hypotheses, none of which is the label of another one.
+tags_for <- function(labels) {
+  for (stem in c("H", "h", "#", "hypothesis ")) {
+    tags <- paste0(stem, whole_text(seq_along(labels)))
+    at <- match(labels, tags)
+    if (all(is.na(at) | at == seq_along(labels))) return(tags)
+  }
+  paste0("#", whole_text(seq_along(labels)), "#")
 }

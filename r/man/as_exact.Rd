@@ -30,7 +30,7 @@ With \code{total}, a double that is at most four units in the last place beside 
 read as this fraction. If the numbers then do not sum to the total exactly, that is an error. In a matrix each row has to, but
 a row of zeros may stay.
 
-A data frame is read column by column. A text that R writes for a fraction, as \code{"0.3333333"} for 1/3, is read as it is
+A data frame is read column by column. Its rows have names unless they are numbered 1, 2 and so on in this order. A text that R writes for a fraction, as \code{"0.3333333"} for 1/3, is read as it is
 written, with a warning of class \code{welungad_written}. Such texts have 6 digits and denominators up to 100, 7 digits and denominators
 up to 1,000, or 8 to 17 digits and denominators up to 10,000. R drops zeros at the end, so it writes \code{"0.952381"} for 20/21.
 

@@ -3,7 +3,7 @@
 \title{Graphs of other packages}
 \description{
 Makes a graph of this package from a graph of graphicalMCP or gMCP. Neither package has to be installed, since only the fields of
-the object are read.
+the object are read. Each call of this package that takes a graph also takes such an object.
 }
 \usage{
 as_graph(x)
@@ -24,6 +24,8 @@ the weight 0.
 A graph of class \code{welungad_graph}.
 }
 \seealso{
+\code{\link{as_initial_graph}}, \code{\link{as_graphMCP}} and \code{\link{as_igraph}} for the way back.
+
 \code{vignette("coming-from", package = "welungad")} has a table of calls.
 }
 \examples{
@@ -36,5 +38,6 @@ theirs <- structure(
   class = "initial_graph"
 )
 as_graph(theirs)
+graph_test(theirs, c(H1 = 0.01, H2 = 0.02))
 \dontshow{\})}
 }

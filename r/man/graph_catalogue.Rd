@@ -36,7 +36,7 @@ procedures using weighted Bonferroni, Simes, or parametric tests. \emph{Biometri
 \doi{10.1002/bimj.201000239}
 }
 \seealso{
-\code{\link{graph_create}}, for graphs with weights and edges of your own.
+\code{\link{named_graphs}}, for these and further graphs with weights and names of your own; \code{\link{graph_create}}, for other graphs.
 }
 \examples{
 \dontshow{if (welungad_found()) withAutoprint(\{ # examples need the program or its library}

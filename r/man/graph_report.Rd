@@ -5,7 +5,8 @@
 Writes a decision as one page of HTML for readers.
 }
 \usage{
-graph_report(x, file, p = NULL, alpha = 0.025, title = NULL)
+graph_report(x, file, p = NULL, alpha = 0.025, title = NULL, protocol = NULL, data_cut = NULL,
+  author = NULL)
 }
 \arguments{
   \item{x}{a result of \code{\link{graph_test}} or \code{\link{graph_stages}}; or a graph, which is then tested with \code{p} at \code{alpha}.}
@@ -13,12 +14,15 @@ graph_report(x, file, p = NULL, alpha = 0.025, title = NULL)
   \item{p}{the p-values if \code{x} is a graph, as for \code{\link{graph_test}}.}
   \item{alpha}{the level if \code{x} is a graph.}
   \item{title}{the title of the page; by default the first line of the printed result.}
+  \item{protocol, data_cut, author}{texts for the lines of the page that name them; each one that is left out is a line to fill in by hand.}
 }
 \details{
-The page has the decision on each hypothesis with its levels and adjusted p-value, the graph before the first rejection and after
-each one, all intersections (if there are at most 6 hypotheses), bounds on the number of false hypotheses, the case, and how to repeat and to
-check the decision. The hypotheses have their labels; if the program has another name for one, it is in parentheses. The
-page has no scripts and needs no other file.
+The page has the method, the decision on each hypothesis with its levels and adjusted p-value, the graph as a table and (of at most 30 edges) in
+pictures before the first rejection and after each one, all intersections (if there are at most 6 hypotheses), bounds on the number of false
+hypotheses, the digest of the evidence with what two checkers answered when the page was made, the case, and how to repeat and to check the
+decision. The hypotheses have their labels; if one of them has more than 10 characters, tables and pictures have the tags H1, H2 and so on, which
+the table of the decision explains. The names that the program has for them are beside the case. The page has no scripts and needs no other file.
+The script \code{check_page.py} checks it against its own case, without the program.
 
 The page says of the decision only what the program prints. Its reports are read strictly, and if the report of the decision is not
 the one that \code{x} has, there is no page.

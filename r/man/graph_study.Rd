@@ -6,12 +6,13 @@ Takes looks one after the other, in one session or in many, and keeps them in a 
 another case is refused.
 }
 \usage{
-graph_study(case, store, looks = NULL)
+graph_study(case, store, looks = NULL, refused = c("stop", "keep"))
 }
 \arguments{
   \item{case}{a result of \code{\link{graph_stages}} without looks, or the lines of a staged case.}
   \item{store}{the name of the file of the looks. It is made if it is missing.}
   \item{looks}{new looks, as for \code{\link{graph_stages}}: a data frame with the columns \code{hypothesis}, \code{stage} and \code{p}.}
+  \item{refused}{what is done if a look would not be taken: \code{"stop"} is an error, and then no look of this call is taken; with \code{"keep"} the others are, and the result lists it.}
 }
 \details{
 The file has positions of hypotheses, and neither names nor levels. So the first call writes the canonical text of the case into
@@ -19,8 +20,12 @@ the file \code{STORE.case}, and a later call with another text is an error. A fi
 refused. Labels that are not the program's names are kept in the file \code{STORE.labels}, and a later call with other labels is an
 error, since the names that the package makes of them can be the same.
 
-A look is kept once all rejections that it allows are made. A look that is known, whose stage does not exist, or whose p-value is
-not from 0 to 1 is not taken, and changes nothing.
+How many looks were kept stands in the file \code{STORE.kept}. If the file of looks is lost, or has fewer looks, the call is an error. To
+begin anew, remove the files beside it.
+
+A look is kept once all rejections that it allows are made. A look of which a p-value is kept already, whose stage does not exist, or whose
+p-value is not from 0 to 1 is not taken. Looks are tried on a copy of the file first, so an error of class \code{welungad_looks_refused},
+whose part \code{refused} lists such looks, leaves the file as it was.
 
 A study needs the program: its C library opens no files.
 }
@@ -38,11 +43,11 @@ Biopharmaceutical Research} \bold{5}, 311--320. \doi{10.1080/19466315.2013.80774
 \examples{
 \dontshow{if ("program" \%in\% welungad_ways()) withAutoprint(\{ # the example needs the program}
 graph <- graph_create(c(PFS = 1 / 2, OS = 1 / 2), rbind(0:1, 1:0))
-case <- graph_stages(graph, list(PFS = c(0.005, 0.02), OS = c(0.005, 0.02)))
+case <- graph_stages(graph, list(PFS = c(0.005, 0.02), OS = c(0.005, 0.02)), at = 1)
 store <- tempfile(fileext = ".db")
 graph_study(case, store)
 graph_study(case, store, data.frame(hypothesis = "PFS", stage = 1, p = 0.002))
 graph_study(case, store, data.frame(hypothesis = "OS", stage = 1, p = 0.004))
-unlink(paste0(store, c("", "-wal", "-shm", ".case")))
+unlink(paste0(store, c("", "-wal", "-shm", ".case", ".kept")))
 \dontshow{\})}
 }

@@ -51,15 +51,17 @@ Prints results, and gives them as data frames, as summaries, and in parts.
   \item{all}{whether all graphs are shown and not the last one alone.}
   \item{i}{hypotheses, by label, name or position, for a decision; sets, by their place, for the others.}
   \item{j}{columns of the table of a decision; all if absent.}
-  \item{...}{unused.}
+  \item{...}{nothing else: another argument, such as a misspelt one, is an error.}
 }
 \details{
 The table of a decision has a row for each hypothesis. Its weight and its local level are those at its rejection, or in the end if it is
 not rejected; \code{step} is its place among the rejections. Below the table, \code{print} names a p-value that agrees with its level in
-the digits shown, and one that is at most four units in the last place from a fraction on the other side of
-the level.
+the digits shown, one that is 0, and one that is at most four units in the last place from a fraction on the other side of
+the level. Below closed tests, bounds and staged tests it names those with which the decision would be another one.
 
-The data frame of a closed test has a row for each intersection, with a weight and a local level for each hypothesis in it. That of
+In a table that would be wider than a line, short tags stand for labels, and a list below has them.
+
+The data frame of a closed test has a row for each intersection, with a weight and a local level for each hypothesis in it. It also has the least levels at which the local and the closed test reject the intersection. That of
 updated graphs has a row for each hypothesis that is left after each removal. That of a staged test has a row for each look.
 }
 \value{
@@ -67,7 +69,7 @@ updated graphs has a row for each hypothesis that is left after each removal. Th
 
 \code{summary} returns, for a graph, a data frame with the weight of each hypothesis and the numbers of its edges; for a decision, an
 object of class \code{welungad_summary}, which prints the rejections in their order; for a closed test, a data frame that counts the
-rejected intersections of each size; for bounds, a table that counts the sets by size and bound; for a staged test, a data frame of the
+rejected intersections of each size; for bounds, a table that counts the sets by size and bound, and for those of Simes' tests an object that prints the rejections; for a staged test, a data frame of the
 rejections.
 
 \code{[} returns, for a decision, the rows of some hypotheses in a data frame; for a closed test and for bounds, an object of the same

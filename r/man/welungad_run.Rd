@@ -35,8 +35,9 @@ hypotheses of the case, is an error, as when \code{WELUNGAD} names another progr
 \code{welungad_way}: \code{"library"}, \code{"program"}, or \code{""} if neither is found. \code{welungad_found}: whether one is. \code{welungad_ways}: those that are found.
 }
 \examples{
-\dontshow{if (welungad_found()) withAutoprint(\{ # examples need the program or its library}
 welungad_way()
+welungad_found()
+\dontshow{if (welungad_found()) withAutoprint(\{ # examples need the program or its library}
 welungad_run("test", c("alpha 0.05", "hypotheses A", "p 0.01", "weights 1"))
 refusal <- tryCatch(graph_create(c(0.6, 0.6), matrix(0, 2, 2)), welungad_refusal = identity)
 refusal$line

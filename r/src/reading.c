@@ -279,22 +279,55 @@ static const char *read_whole(const char *text, wide *value) {
   return count >= 1 && count <= 38 ? text : NULL;
 }
 
-/* The double of a fraction: R's quotient if both parts are doubles, else the first 53 digits of the quotient, as gmp gives them. */
+/* Reads an exponent of at most two digits after its sign, and returns where the text continues; NULL if there is none. */
+static const char *read_exponent(const char *text, int *exponent) {
+  int negative = *text == '-', count = 0;
+  if (*text == '-' || *text == '+') text++;
+  for (*exponent = 0; *text >= '0' && *text <= '9' && count < 3; text++, count++) *exponent = *exponent * 10 + (*text - '0');
+  if (negative) *exponent = -*exponent;
+  return count >= 1 && count <= 2 ? text : NULL;
+}
+
+/* Reads a decimal of at most 38 digits as the fraction n / d, whose parts have at most 38 digits too. Returns whether it is one. */
+static int read_decimal(const char *text, wide *n, wide *d) {
+  int digits = 0, places = 0, has_point = 0, exponent = 0;
+  for (*n = 0; (*text >= '0' && *text <= '9') || (*text == '.' && !has_point); text++) {
+    if (*text == '.') {
+      has_point = 1;
+      continue;
+    }
+    if (++digits > 38) return 0;
+    *n = *n * 10 + (wide)(*text - '0');
+    places += has_point;
+  }
+  if (*text == 'e') text = read_exponent(text + 1, &exponent);
+  if (digits == 0 || text == NULL || *text != 0) return 0;
+  for (places -= exponent; places < 0 && *n < power(10, 37); places++) *n *= 10;
+  if (places < 0 || places > 38) return 0;
+  *d = power(10, places);
+  return 1;
+}
+
+/* The double nearest to a fraction, of two the even one: R's quotient if both parts are doubles, else that of its first 55 digits, of
+ * which the last one is 1 if any digit after it is, so that the machine rounds once. */
 static double double_of(wide n, wide d) {
   const wide most = (wide)1 << 53;
   if (n <= most && d <= most) return (double)n / (double)d;
   wide quotient = n / d, rest = n % d;
   int exponent = 0;
-  for (; quotient >= most; exponent++) quotient >>= 1;
-  for (; quotient < most / 2 && (quotient > 0 || rest > 0); exponent--) {
+  for (; quotient >> 55; exponent++) {
+    rest |= quotient & 1;
+    quotient >>= 1;
+  }
+  for (; quotient >> 54 == 0 && (quotient > 0 || rest > 0); exponent--) {
     rest *= 2;
     quotient = 2 * quotient + (rest >= d);
     if (rest >= d) rest -= d;
   }
-  return ldexp((double)quotient, exponent);
+  return ldexp((double)(uint64_t)(quotient | (rest > 0)), exponent);
 }
 
-/* Returns the doubles of texts that are whole numbers or fractions of parts of at most 38 digits; NA for other texts. */
+/* Returns the doubles of texts that are whole numbers, decimals, or fractions of parts of at most 38 digits; NA for other texts. */
 SEXP welungad_doubles(SEXP texts) {
   if (TYPEOF(texts) != STRSXP) error("texts are needed");
   R_xlen_t len = XLENGTH(texts);
@@ -303,8 +336,20 @@ SEXP welungad_doubles(SEXP texts) {
     wide n, d = 1;
     const char *rest = STRING_ELT(texts, i) == NA_STRING ? NULL : read_whole(CHAR(STRING_ELT(texts, i)), &n);
     if (rest && *rest == '/') rest = read_whole(rest + 1, &d);
-    REAL(result)[i] = rest && *rest == 0 && d > 0 ? double_of(n, d) : NA_REAL;
+    int is_read = rest && *rest == 0 && d > 0;
+    if (!is_read && STRING_ELT(texts, i) != NA_STRING) is_read = read_decimal(CHAR(STRING_ELT(texts, i)), &n, &d);
+    REAL(result)[i] = is_read ? double_of(n, d) : NA_REAL;
   }
+  UNPROTECT(1);
+  return result;
+}
+
+/* Returns the double after each of some doubles, or that before it. */
+SEXP welungad_next(SEXP doubles, SEXP above) {
+  if (TYPEOF(doubles) != REALSXP || TYPEOF(above) != LGLSXP || XLENGTH(above) != 1) error("doubles are needed, and TRUE or FALSE");
+  SEXP result = PROTECT(allocVector(REALSXP, XLENGTH(doubles)));
+  double end = LOGICAL(above)[0] ? HUGE_VAL : -HUGE_VAL;
+  for (R_xlen_t i = 0; i < XLENGTH(doubles); i++) REAL(result)[i] = nextafter(REAL(doubles)[i], end);
   UNPROTECT(1);
   return result;
 }

@@ -14,5 +14,6 @@ int library_readings(const double *doubles, size_t len, uint64_t *words);
 SEXP welungad_fractions(SEXP doubles, SEXP room);
 SEXP welungad_readings(SEXP doubles, SEXP own);
 SEXP welungad_doubles(SEXP texts);
+SEXP welungad_next(SEXP doubles, SEXP above);
 
 #endif

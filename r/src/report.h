@@ -4,5 +4,6 @@
 #include <Rinternals.h>
 
 SEXP welungad_read_test(SEXP lines, SEXP names);
+SEXP welungad_read_sets(SEXP lines, SEXP names, SEXP has_weights);
 
 #endif

@@ -16,6 +16,8 @@
 __attribute__((weak)) uint8_t welungad_read(const uint64_t *bits, size_t bits_len, uint64_t *out, size_t out_len);
 __attribute__((weak)) uint8_t welungad_test_rows(const uint8_t *kase, size_t kase_len, const uint64_t *p, size_t p_len,
                                                  uint8_t *rejected, size_t rejected_len, uint8_t *statuses, size_t statuses_len);
+__attribute__((weak)) uint8_t welungad_update(const uint8_t *kase, size_t kase_len, const size_t *removed, size_t removed_len, uint8_t *out,
+                                              size_t out_len, size_t *needed);
 
 /* The room on the stack for an answer. A longer answer is asked for again, with room for it. */
 #define FIRST_ROOM 65536
@@ -51,6 +53,31 @@ static const uint8_t *bytes(SEXP x, size_t *len) {
   return *len ? (const uint8_t *)RAW(x) : (const uint8_t *)"";
 }
 
+/* Returns the number of bytes of the line of a case that begins with a word, and counts its blanks; 0 if there is none. */
+static size_t line_of(const uint8_t *kase, size_t len, const char *word, size_t *blanks) {
+  size_t head = strlen(word);
+  for (size_t begin = 0, end; begin < len; begin = end + 1) {
+    for (end = begin; end < len && kase[end] != '\n'; end++);
+    if (end - begin > head && memcmp(kase + begin, word, head) == 0) {
+      *blanks = 0;
+      for (size_t k = begin; k < end; k++) *blanks += kase[k] == ' ';
+      return end - begin;
+    }
+  }
+  return 0;
+}
+
+/* The room for the answer of a command that lists all sets of at most 16 hypotheses: a line for each of them, in which half of the names
+ * stand, each with a number of some letters. If the answer is longer it takes a second call, as any other one that is longer than
+ * FIRST_ROOM. */
+static size_t room_for(const uint8_t *words, const uint8_t *kase, size_t case_len) {
+  const char *word = (const char *)words;
+  if (strcmp(word, "weights") && strcmp(word, "bounds") && strcmp(word, "simes")) return FIRST_ROOM;
+  size_t count = 0, names = line_of(kase, case_len, "hypotheses ", &count);
+  if (count < 10 || count > 16) return FIRST_ROOM;
+  return ((size_t)1 << count) * (names / 2 + 5 * count + 16);
+}
+
 static SEXP answer(uint8_t status, const uint8_t *text, size_t len) {
   if (len > INT_MAX) error("the text has more than 2^31 - 1 bytes");
   const char *names[] = {"status", "text", ""};
@@ -66,8 +93,11 @@ static SEXP welungad_call(SEXP words, SEXP kase, SEXP proof) {
   if (!has_interface()) error("the C library has another interface than the one that the package was installed with");
   const void *top = vmaxget();
   uint8_t first[FIRST_ROOM], *out = first;
-  size_t words_len, case_len, proof_len, needed = 0, room = sizeof first;
+  size_t words_len, case_len, proof_len, needed = 0;
   const uint8_t *w = joined(words, &words_len), *c = bytes(kase, &case_len), *p = bytes(proof, &proof_len);
+  size_t room = words_len ? room_for(w, c, case_len) : FIRST_ROOM;
+  if (room > sizeof first) out = (uint8_t *)R_alloc(room, 1);
+  else room = sizeof first;
   R_CheckStack2(STACK);
   uint8_t status = welungad_run(w, words_len, c, case_len, p, proof_len, out, room, &needed);
   while (status == WELUNGAD_ROOM && needed > room) {
@@ -95,6 +125,33 @@ int library_readings(const double *doubles, size_t len, uint64_t *words) {
 }
 
 static SEXP has_numbers(void) { return ScalarLogical(has_calls()); }
+
+static SEXP has_update(void) { return ScalarLogical(has_interface() && welungad_update != NULL); }
+
+/* Returns the status and the text of the graph of a case without some hypotheses, which are removed in this order. Their places are from 1
+ * on. */
+static SEXP update(SEXP kase, SEXP removed) {
+  if (TYPEOF(kase) != RAWSXP || TYPEOF(removed) != INTSXP) error("a case and places are needed");
+  if (!has_interface() || welungad_update == NULL) error("the C library is of another release, and updates no graphs");
+  const void *top = vmaxget();
+  size_t case_len, count = (size_t)XLENGTH(removed), needed = 0, room = FIRST_ROOM;
+  const uint8_t *c = bytes(kase, &case_len);
+  size_t *places = (size_t *)R_alloc(count + 1, sizeof(size_t));
+  for (size_t k = 0; k < count; k++) places[k] = (size_t)INTEGER(removed)[k] - 1;
+  uint8_t *out = (uint8_t *)R_alloc(room, 1);
+  R_CheckStack2(STACK);
+  uint8_t status = welungad_update(c, case_len, places, count, out, room, &needed);
+  while (status == WELUNGAD_ROOM && needed > room) {
+    room = needed;
+    out = (uint8_t *)R_alloc(room, 1);
+    status = welungad_update(c, case_len, places, count, out, room, &needed);
+  }
+  if (status == WELUNGAD_ROOM || needed > room) error("the C library gives no whole text");
+  SEXP result = PROTECT(answer(status, out, needed));
+  vmaxset(top);
+  UNPROTECT(1);
+  return result;
+}
 
 /* The marks of rows as a logical matrix with a row for each of them. What is neither 0 nor 1 is NA. */
 static SEXP marks_of(const uint8_t *marks, int rows, int columns) {
@@ -148,6 +205,10 @@ int library_readings(const double *doubles, size_t len, uint64_t *words) { retur
 
 static SEXP has_numbers(void) { return ScalarLogical(0); }
 
+static SEXP has_update(void) { return ScalarLogical(0); }
+
+static SEXP update(SEXP kase, SEXP removed) { return welungad_call(kase, removed, removed); }
+
 static SEXP welungad_rows(SEXP kase, SEXP p) { return welungad_call(kase, p, p); }
 #endif
 
@@ -156,10 +217,14 @@ static const R_CallMethodDef calls[] = {
   {"welungad_interface", (DL_FUNC)&interface, 0},
   {"welungad_has_numbers", (DL_FUNC)&has_numbers, 0},
   {"welungad_rows", (DL_FUNC)&welungad_rows, 2},
+  {"welungad_has_update", (DL_FUNC)&has_update, 0},
+  {"welungad_update", (DL_FUNC)&update, 2},
   {"welungad_fractions", (DL_FUNC)&welungad_fractions, 2},
   {"welungad_readings", (DL_FUNC)&welungad_readings, 2},
   {"welungad_doubles", (DL_FUNC)&welungad_doubles, 1},
+  {"welungad_next", (DL_FUNC)&welungad_next, 2},
   {"welungad_read_test", (DL_FUNC)&welungad_read_test, 2},
+  {"welungad_read_sets", (DL_FUNC)&welungad_read_sets, 3},
   {NULL, NULL, 0},
 };
 

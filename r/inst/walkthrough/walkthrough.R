@@ -68,7 +68,8 @@ graph_update(improved, "C")
 ## ---- staged ----
 # 4. A staged trial, by levels.
 # Overall survival spends 0.003 and 0.022 while it has the whole level, and in proportion at other weights. Progression-free
-# survival has a table: the levels of a row count from its weight on.
+# survival has a table: the levels of a row count from its weight on. OS begins with the weight 1/2, so at = 1 says that its levels
+# are those of the whole level.
 trial <- graph_create(c(OS = 1 / 2, PFS = 1 / 2), rbind(c(0, 1), c(1, 0)), labels = c("overall survival", "progression-free"))
 levels <- list(OS = c(0.003, 0.022), PFS = rbind("1/2" = c(0.005, 0.0075), "1" = c(0.01, 0.015)))
 looks <- data.frame(
@@ -76,7 +77,7 @@ looks <- data.frame(
   stage = c(1, 1, 2),
   p = c(0.004, 0.01, 0.02)
 )
-graph_stages(trial, levels, looks, alpha = 0.025)
+graph_stages(trial, levels, looks, alpha = 0.025, at = 1)
 
 ## ---- evidence ----
 # 5. Evidence for a reviewer.

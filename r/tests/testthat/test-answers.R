@@ -38,7 +38,7 @@ test_that("so it is for each command", {
       check = function() graph_check(graph, p, evidence = evidence),
       bounds = function() graph_bounds(graph, p),
       simes = function() graph_simes(graph, p),
-      stages = function() graph_stages(graph, levels, looks)
+      stages = function() graph_stages(graph, levels, looks, at = 1)
     )
     for (command in names(calls)) {
       words <- c(command, if (command == "check") "evidence")

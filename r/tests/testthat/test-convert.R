@@ -42,7 +42,7 @@ test_that("graphs of gMCP are taken by their slots", {
     both <- of_slots("entangledMCP", subgraphs = list(half(c(1, 0)), half(c(0, 1))), weights = c(0.25, 0.75))
     expect_equal(vapply(as_graph(both)$components, `[[`, "", "share"), c("1/4", "3/4"))
     expect_equal(as_graph(diabetes()), diabetes())
-    expect_error(as_graph(1), "x: a graph of graphicalMCP")
+    expect_error(as_graph(1), "x: a graph is needed, of this package, of graphicalMCP")
   })
 })
 

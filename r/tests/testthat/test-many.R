@@ -53,7 +53,7 @@ test_that("a block of doubles is decided as its rows are, and by few calls", {
   P <- rbind(matrix(runif(3 * 1100)^4, ncol = 3), c(0.0125, 0.025, 1), c(0.1 + 0.2, 0, 1), 0:2 / 3)
   many <- graph_test_many(graph, P, alpha = 0.05)
   texts <- welungad:::decided_texts(graph, "1/20", P)
-  expect_identical(unname(many), texts$rejected)
+  expect_identical(unname(as.matrix(many)), texts$rejected)
   expect_true(all(texts$statuses == 0L) && any(many) && !all(many))
   expect_identical(graph_test_many(graph, matrix(0:1, 2, 3)), graph_test_many(graph, matrix(as.character(0:1), 2, 3)))
   expect_identical(graph_test_many(graph, data.frame(C = 0:1, B = c(0.01, 0.02), "low dose" = 1, check.names = FALSE))[, "B"], c(TRUE, FALSE))
@@ -77,5 +77,44 @@ test_that("a table of no columns is refused by their number", {
     for (P in list(data.frame(), matrix(0, 2, 0), data.frame(a = c("0.1", "0.2")))) {
       expect_error(graph_test_many(pair(), P), "^P: [01] columns given for 2 hypotheses$")
     }
+  })
+})
+
+test_that("many trials are summarised with standard errors, by hand", {
+  each_way(function(way) {
+    # H1 and H2, H1, none, H1 and H2
+    many <- graph_test_many(pair(c("A", "B")), rbind(c(0.001, 0.001), c(0.001, 0.9), c(0.9, 0.9), c(0.001, 0.001)))
+    table <- as.data.frame(summary(many))
+    expect_equal(table$rejected, c("A", "B", "any", "all", "number"))
+    expect_equal(table$mean, c(0.75, 0.5, 0.75, 0.5, 1.25))
+    expect_equal(table$error, c(sqrt(0.75 * 0.25 / 4), 0.25, sqrt(0.75 * 0.25 / 4), 0.25, sqrt(2.75 / 3 / 4)))
+    expect_equal(table$error[5], stats::sd(c(2, 1, 0, 2)) / 2)
+    expect_output(print(many), "4 trials of 2 hypotheses at level 0.025 (1/40)", fixed = TRUE)
+    expect_output(print(many), "number +1.25 +0.48")
+    expect_equal(class(as.matrix(many)), c("matrix", "array"))
+    expect_equal(many[3, ], c(A = FALSE, B = FALSE))
+    expect_equal(colMeans(many), c(A = 0.75, B = 0.5))
+    expect_equal(mean(many[, "A"] & many[, "B"]), 0.5)
+    expect_identical(!many, !as.matrix(many))
+    expect_identical(t(many), t(as.matrix(many)))
+    expect_identical(head(many, 2), as.matrix(many)[1:2, ])
+    expect_equal(as.data.frame(many)$B, c(TRUE, FALSE, FALSE, TRUE))
+    wide <- graph_create(c(1, 0, 0, 0), rbind(
+      c("0", "1/1000000000000000000", "0", "0"), c("0", "0", "1/999999999999999999", "0"), c("0", "0", "0", "1/999999999999999997"), "0"
+    ))
+    some <- summary(suppressWarnings(graph_test_many(wide, rbind(rep(1, 4), rep(0, 4)), 0.05)))
+    expect_equal(c(some$trials, some$undecided), c(1, 1))
+    expect_output(print(some), "1 trial without a decision, left out")
+    expect_equal(nrow(as.data.frame(summary(graph_test_many(pair(), matrix(0.5, 0, 2))))), 5)
+  })
+})
+
+test_that("rows that would be decided otherwise with the fractions beside doubles are named", {
+  each_way(function(way) {
+    P <- rbind(c(0.5, 0.5), c(0.0125 + 2^-59, 1), c(0.2 + 2^-55, 1), c(0.001, 0.001))
+    expect_message(found <- graph_test_many(pair(), P), "^P: 1 row would be decided otherwise with the fractions beside doubles: row 2. 0.0125.* is one unit",
+      class = "welungad_tie")
+    expect_equal(unname(as.matrix(found)), cbind(c(FALSE, FALSE, FALSE, TRUE), c(FALSE, FALSE, FALSE, TRUE)))
+    expect_message(graph_test_many(pair(), P[-2, ]), NA)
   })
 })

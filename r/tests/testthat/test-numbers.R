@@ -180,6 +180,35 @@ test_that("doubles of fractions are the ones that R computes", {
   expect_identical(welungad:::double_of(c(long, "1/2")), c(1 / 3, 1 / 2))
 })
 
+# A double as an exact fraction.
+fraction_of <- function(x) {
+  exponent <- floor(log2(abs(x))) - 52
+  power <- gmp::as.bigz(2)^abs(exponent)
+  digits <- gmp::as.bigz(sprintf("%.0f", x * 2^-exponent))
+  if (exponent < 0) gmp::as.bigq(digits, power) else gmp::as.bigq(digits * power)
+}
+
+test_that("a double is the one that is nearest to its fraction", {
+  set.seed(13)
+  whole <- function(most) paste0(sample(1:9, 1), paste(sample(0:9, sample(0:most, 1), TRUE), collapse = ""))
+  texts <- c(replicate(60, paste0(whole(37), "/", whole(37))), replicate(20, paste0(whole(60), "/", whole(60))), replicate(20, paste0("0.", whole(25))),
+    "9007199254740993", "9007199254740995", "1/9007199254740993", "18014398509481985/18014398509481984", "-10000000000000000000000000000/30000000000000000000000000001")
+  found <- welungad:::double_of(texts)
+  values <- welungad:::fraction(texts)
+  for (i in seq_along(texts)) {
+    away <- abs(fraction_of(found[i]) - values[i])
+    for (above in c(TRUE, FALSE)) expect_true(away <= abs(fraction_of(welungad:::next_double(found[i], above)) - values[i]), info = texts[i])
+  }
+  expect_identical(welungad:::double_of(c("9007199254740993", "9007199254740995")), c(9007199254740992, 9007199254740996))
+  expect_identical(welungad:::double_of(c("5e-324", "1e-310", "1e-400", "1e400", "0.1", "-0.5")), c(5e-324, 1e-310, 0, Inf, 0.1, -0.5))
+})
+
+test_that("the double that was given is known from what it was read as", {
+  set.seed(14)
+  x <- c(runif(2000), 1:100 / 100, 1 / 1:100, 10^-runif(200, 0, 320), 2^-(0:1074), 0.1 + 0.2, 0, 1)
+  expect_identical(welungad:::given_doubles(as_exact(x)), x)
+})
+
 test_that("what is no fraction of two whole numbers has no double", {
   most <- strrep("9", 38)
   for (text in c("1/0", "0/0", paste0(most, c("/0", "/", "//1", "/1/1", "/x")), "/1", "1/2/3", "1/-2", "0x1/3", "1 /3", "NA")) {

@@ -1,3 +1,133 @@
+# A data frame with whole numbers as the names of its rows, as read.csv(row.names = 1) makes them.
+with_rows <- function(frame, rows) {
+  attr(frame, "row.names") <- as.integer(rows)
+  frame
+}
+
+test_that("whole numbers that are the names of rows are names", {
+  each_way(function(way) {
+    edges <- matrix(c("0", "0", "0", "1/2", "0", "0", "1/2", "1", "0"), 3)
+    graph <- graph_create(c("10" = "1/2", "20" = "1/3", "30" = "1/6"), edges)
+    p <- with_rows(data.frame(p = c(0.004, 0.9, 0.03)), c(20, 10, 30))
+    expect_equal(graph_test(graph, p)$exact$p, c("9/10", "1/250", "3/100"))
+    read <- utils::read.csv(text = "dose,p\n20,0.004\n10,0.9\n30,0.03", row.names = 1)
+    expect_equal(graph_test(graph, read)$exact$p, c("9/10", "1/250", "3/100"))
+    expect_equal(as_exact(read)["10", "p"]$read, "9/10")
+    # sorted
+    counted <- graph_create(c("1" = "1/2", "2" = "1/3", "3" = "1/6"), edges)
+    plain <- data.frame(p = c(0.9, 0.004, 0.03))
+    expect_equal(graph_test(counted, plain[order(plain$p), , drop = FALSE])$exact$p, c("9/10", "1/250", "3/100"))
+    expect_equal(graph_test(counted, plain)$exact$p, c("9/10", "1/250", "3/100"))
+    expect_error(graph_test(graph_create(c(H1 = 1, H2 = 0, H3 = 0), edges), plain[order(plain$p), , drop = FALSE]),
+      "^p: no hypothesis has the name \"2\".*give rows the names of the hypotheses, or a column hypothesis$")
+    expect_error(graph_test(counted, plain[c(1, 3), , drop = FALSE]), "^p: nothing is given for \"2\"$")
+    # beside a column hypothesis the order of rows says nothing
+    long <- data.frame(hypothesis = c("3", "1", "2"), p = c(0.03, 0.9, 0.004))
+    expect_equal(graph_test(counted, long[order(long$hypothesis), ])$exact$p, c("9/10", "1/250", "3/100"))
+    expect_error(graph_test(graph, with_rows(data.frame(hypothesis = c("10", "20", "30"), p = 0.1), c(20, 10, 30))), "^p: the numbers have the names 20, 10, 30")
+    weights <- with_rows(data.frame(weight = c("1/3", "1/2", "1/6")), c(20, 10, 30))
+    expect_equal(graph_create(weights, edges, hyp_names = c("10", "20", "30"))$components, graph$components)
+    sheet <- utils::read.csv(text = "dose,10,20,30\n20,0,0,1\n10,0,0.5,0.5\n30,0,0,0", row.names = 1, check.names = FALSE)
+    for (form in list(sheet, as.matrix(sheet), as_exact(sheet))) {
+      expect_equal(graph_create(weights, form, hyp_names = c("10", "20", "30"))$components, graph$components)
+    }
+    levels <- with_rows(data.frame(V1 = c(0.002, 0.001, 0.003), V2 = c(0.004, 0.003, 0.005)), c(20, 10, 30))
+    expect_match(graph_stages(graph, levels, at = 1)$case, "spend 10 1/25 3/25\nspend 20 2/25 4/25\nspend 30 3/25 1/5\n", fixed = TRUE)
+    at <- with_rows(data.frame(at = c(1, 1 / 2, 1)), c(20, 10, 30))
+    expect_match(graph_stages(graph, levels, at = at)$case, "spend 10 2/25 6/25\n", fixed = TRUE)
+    place <- with_rows(data.frame(x = c(1, 0, 2), y = 0), c(20, 10, 30))
+    expect_equal(welungad:::checked_layout(place, graph)[, 1], 0:2)
+    expect_equal(welungad:::checked_layout(with_rows(place, 1:3), graph)[, 1], c(1, 0, 2))
+  })
+})
+
+test_that("many trials are rows, also if rows have the names of hypotheses", {
+  each_way(function(way) {
+    graph <- pair(c("1", "2"))
+    P <- data.frame("1" = c(0.001, 0.9), "2" = c(0.9, 0.9), check.names = FALSE)
+    expect_equal(unname(as.matrix(graph_test_many(graph, P))), rbind(c(TRUE, FALSE), FALSE))
+    rows <- "^P: its rows have the names of hypotheses"
+    expect_error(graph_test_many(graph, P[2:1, ]), rows)
+    expect_error(graph_test_many(graph, `rownames<-`(as.matrix(P), c("2", "1"))), rows)
+    expect_error(graph_test_many(pair(), data.frame(t1 = c(0.1, 0.2), t2 = 0.3, row.names = c("H2", "H1"))), rows)
+    sorted <- rbind(P, 0.5)[3:1, ]
+    expect_equal(dimnames(graph_test_many(graph, sorted)), list(c("3", "2", "1"), c("1", "2")))
+  })
+})
+
+test_that("numbers that are called as those of another argument are an error", {
+  each_way(function(way) {
+    graph <- pair()
+    long <- data.frame(hypothesis = c("H1", "H2"), weight = c(0.001, 0.9))
+    expect_error(graph_test(graph, long), "^p: beside the column hypothesis a column p is needed, and not \"weight\"$")
+    names(long)[2] <- "p"
+    expect_equal(unname(graph_test(graph, long)$rejected), c(TRUE, FALSE))
+    expect_error(graph_create(long, rbind(0:1, 1:0)), "^hypotheses: beside the column hypothesis a column weight is needed, and not \"p\"$")
+    expect_error(graph_stages(graph, list(0.01, 0.01), at = long), "^at: beside the column hypothesis a column at is needed, and not \"p\"$")
+    table <- as.data.frame(graph_test(graph, long))
+    row.names(table) <- table$hypothesis
+    for (name in c("weight", "level", "adjusted", "step")) {
+      expect_error(graph_test(graph, table[name]), paste0("^p: these numbers are called \"", name, "\"$"))
+      expect_error(graph_test(graph, as.matrix(table[name])), paste0("^p: these numbers are called \"", name, "\"$"))
+      expect_error(graph_test(graph, t(as.matrix(table[name]))), paste0("^p: these numbers are called \"", name, "\"$"))
+    }
+    expect_equal(graph_test(graph, table["p"])$exact$p, c("1/1000", "9/10"))
+    expect_error(graph_create(table["p"], rbind(0:1, 1:0)), "^hypotheses: these numbers are called \"p\"$")
+    expect_equal(graph_test(graph, setNames(table["p"], "value"))$exact$p, c("1/1000", "9/10"))
+    own <- graph_create(c(weight = 1 / 2, p = 1 / 2), rbind(0:1, 1:0))
+    expect_equal(graph_test(own, data.frame(p = 0.001, weight = 0.9))$exact$p, c("9/10", "1/1000"))
+  })
+})
+
+test_that("labels that look alike are told apart", {
+  each_way(function(way) {
+    zeros <- matrix(0, 2, 2)
+    for (label in c("H1 ", " H1", "H1\u00a0", "H1\t", "H\u200b1", "H1\n")) {
+      expect_error(graph_create(c(1 / 2, 1 / 2), zeros, hyp_names = c("H1", label)), "^hyp_names: the names \"H1\" and \".*\" are alike but for blanks: character . is ")
+    }
+    expect_error(graph_create(c(1 / 2, 1 / 2), zeros, labels = c("low dose", "low  dose")), "^labels: the names .* are alike but for blanks: character 5 is U.0020, and not U.0064$")
+    expect_equal(graph_create(c(1 / 2, 1 / 2), zeros, labels = c("low dose", "lowdose"))$labels, c("low dose", "lowdose"))
+    graph <- graph_create(c("dose \u00fc" = 1 / 2, "low dose" = 1 / 2), zeros)
+    expect_error(graph_test(graph, c("dose u\u0308" = 0.1, "low dose" = 0.2)), "which looks like \"dose \u00fc\": character 6 is U+0075, and not U+00FC", fixed = TRUE)
+    expect_error(graph_test(graph, c("dose \u00fc" = 0.1, "low\u00a0dose" = 0.2)), "which looks like \"low dose\": character 4 is U+00A0, and not U+0020", fixed = TRUE)
+    expect_error(graph_update(graph, "low dose "), "^delete: no hypothesis has the name \"low dose \", which looks like \"low dose\": character 9 is U.0020, and not nothing$")
+    expect_error(graph_test(graph, c("dose \u00fc" = 0.1, low_dose = 0.2)), "^p: some names are labels and others are the program's names, so they fit in no way: give all labels")
+    expect_equal(graph_test(graph, c(low_dose = 0.2, dose = 0.1))$exact$p, c("1/10", "1/5"))
+  })
+})
+
+test_that("labels and names that change places are an error, and new ones are not", {
+  each_way(function(way) {
+    p <- c(0.001, 0.9)
+    labelled <- graph_create(c(A = 1 / 2, B = 1 / 2), rbind(0:1, 1:0), labels = c("low dose", "high dose"))
+    for (part in c("labels", "names")) {
+      turned <- labelled
+      turned[[part]] <- rev(turned[[part]])
+      for (call in list(graph_test, graph_canon, graph_evidence, graph_bounds, function(x, p) graph_test_many(x, t(p)), function(x, p) graph_update(x, 1),
+        function(x, p) graph_entangle(x, shares = 1), function(x, p) print(x), function(x, p) as.data.frame(x), function(x, p) summary(x), function(x, p) plot(x))) {
+        expect_error(call(turned, p), paste0("^graph: \".*\" was the ", sub("s$", "", part), " of another hypothesis, whose numbers stay where they are"))
+      }
+    }
+    mixed <- labelled
+    mixed$labels <- c("high dose", "new")
+    expect_error(graph_test(mixed, p), "^graph: \"high dose\" was the label of another hypothesis")
+    mixed$labels <- c("B", "new")
+    expect_error(graph_test(mixed, p), "is the name of another hypothesis")
+    fresh <- labelled
+    fresh$labels <- c("10 mg", "20 mg")
+    expect_equal(graph_test(fresh, c("20 mg" = 0.9, "10 mg" = 0.001))$rejected, c("10 mg" = TRUE, "20 mg" = FALSE))
+    fresh <- labelled
+    fresh$names <- c("X", "Y")
+    expect_match(graph_test(fresh, p)$case, "hypotheses X Y", fixed = TRUE)
+    # also of a result
+    x <- graph_test(labelled, p)
+    x$graph$labels <- rev(x$graph$labels)
+    for (call in list(print, as.data.frame, summary, plot, graph_steps, graph_rejections, function(x) graph_report(x, tempfile()))) {
+      expect_error(call(x), "^graph: \"high dose\" was the label of another hypothesis")
+    }
+  })
+})
+
 test_that("labels are distinct", {
   each_way(function(way) {
     zeros <- matrix(0, 2, 2)
@@ -95,9 +225,9 @@ test_that("numbers beside the names of other hypotheses are an error", {
     for (wrong in list(data.frame(hypothesis = c("H1", "H2"), p = p), tibble_of_two(hypothesis = c("H1", "H2"), p = p))) {
       expect_error(graph_test(pair(), wrong), paste0("^p", fault))
       wrong$stage <- 1
-      expect_error(graph_stages(pair(), list(0.01, 0.01), wrong), paste0("^looks", fault))
+      expect_error(graph_stages(pair(), list(0.01, 0.01), wrong, at = 1), paste0("^looks", fault))
       wrong$hypothesis <- c("H2", "H1")
-      expect_equal(graph_stages(pair(), list(0.01, 0.01), wrong)$looks$p, c("1/1000", "9/10"))
+      expect_equal(graph_stages(pair(), list(0.01, 0.01), wrong, at = 1)$looks$p, c("1/1000", "9/10"))
     }
   })
 })
@@ -141,14 +271,14 @@ test_that("names decide the direction of a table of levels", {
     expect_equal(graph_stages(pair(), t(by_columns)[2:1, ], at = 1 / 2)$case, x$case)
     expect_equal(graph_stages(pair(), as.data.frame(by_columns), at = 1 / 2)$case, x$case)
     expect_equal(graph_stages(pair(), list(H2 = c(0.003, 0.002), H1 = as_exact(c(0.005, 0.004))), at = c(H2 = 0.5, H1 = 0.5))$case, x$case)
-    expect_error(graph_stages(pair(), unname(by_columns)), "levels: neither rows nor columns of the table name the hypotheses")
+    expect_error(graph_stages(pair(), unname(by_columns), at = 1), "levels: neither rows nor columns of the table name the hypotheses")
     square <- matrix(0.001, 2, 2, dimnames = list(c("H1", "H2"), c("H1", "H2")))
-    expect_error(graph_stages(pair(), square), "levels: both rows and columns of the table name the hypotheses")
-    expect_error(graph_stages(pair(), list(H1 = 0.001, H3 = 0.002)), "levels: no hypothesis has the name \"H3\"", fixed = TRUE)
-    expect_error(graph_stages(pair(), list(H1 = 0.001, H2 = c(0.001, 0.002))), "levels: \"H2\" has 2 stages, and \"H1\" 1", fixed = TRUE)
+    expect_error(graph_stages(pair(), square, at = 1), "levels: both rows and columns of the table name the hypotheses")
+    expect_error(graph_stages(pair(), list(H1 = 0.001, H3 = 0.002), at = 1), "levels: no hypothesis has the name \"H3\"", fixed = TRUE)
+    expect_error(graph_stages(pair(), list(H1 = 0.001, H2 = c(0.001, 0.002)), at = 1), "levels: \"H2\" has 2 stages, and \"H1\" 1", fixed = TRUE)
     # nothing is recycled
-    expect_error(graph_stages(diabetes(), list(0.001, 0.002)), "levels: 2 given for 4 hypotheses", fixed = TRUE)
-    expect_error(graph_stages(diabetes(), list(0.001)), "levels: 1 given for 4 hypotheses", fixed = TRUE)
+    expect_error(graph_stages(diabetes(), list(0.001, 0.002), at = 1), "levels: 2 given for 4 hypotheses", fixed = TRUE)
+    expect_error(graph_stages(diabetes(), list(0.001), at = 1), "levels: 1 given for 4 hypotheses", fixed = TRUE)
     expect_error(graph_stages(diabetes(), rep(list(0.001), 4), at = c(1, 1 / 2)), "at: 2 given for 4 hypotheses", fixed = TRUE)
     # a level at a weight that no hypothesis has
     for (at in list(-1, 0, 2, 50, "x", NA)) {
@@ -163,18 +293,18 @@ test_that("the stages of looks are whole numbers", {
   each_way(function(way) {
     levels <- list(H1 = c(0.001, 0.002, 0.003), H2 = c(0.001, 0.002, 0.003))
     looks <- function(stage) data.frame(hypothesis = c("H1", "H2"), stage = stage, p = c(0.5, 0.6))
-    for (stage in list(c(2, 3), c(2L, 3L), c("2", "3"))) expect_equal(graph_stages(pair(), levels, looks(stage))$looks$stage, 2:3)
-    expect_error(graph_stages(pair(), levels, looks(factor(c("2", "3")))), "looks: stage: the first is \"2\" of a factor, which is not a whole number", fixed = TRUE)
-    expect_error(graph_stages(pair(), levels, looks(c(1, 1.9))), "looks: stage: the second is 1.9, which is not a whole number", fixed = TRUE)
-    expect_error(graph_stages(pair(), levels, looks(c(1, 2 + 2^-51))), "looks: stage: the second is 2.0000000000000004, which is not a whole number", fixed = TRUE)
-    expect_error(graph_stages(pair(), levels, looks(c(1, NA))), "looks: stage: the second is NA")
-    expect_error(graph_stages(pair(), levels, data.frame(hypothesis = 1:2, stage = 1, p = 0.1)), "looks: the column hypothesis has numbers")
-    expect_error(graph_stages(pair(), levels, data.frame(hypothesis = "H3", stage = 1, p = 0.1)), "looks: no hypothesis has the name \"H3\"", fixed = TRUE)
-    expect_equal(refusal_of(graph_stages(pair(), levels, looks(c(4, 4))))$line, "malformed: case: arrival 1 stage")
+    for (stage in list(c(2, 3), c(2L, 3L), c("2", "3"))) expect_equal(graph_stages(pair(), levels, looks(stage), at = 1)$looks$stage, 2:3)
+    expect_error(graph_stages(pair(), levels, looks(factor(c("2", "3"))), at = 1), "looks: stage: the first is \"2\" of a factor, which is not a whole number", fixed = TRUE)
+    expect_error(graph_stages(pair(), levels, looks(c(1, 1.9)), at = 1), "looks: stage: the second is 1.9, which is not a whole number", fixed = TRUE)
+    expect_error(graph_stages(pair(), levels, looks(c(1, 2 + 2^-51)), at = 1), "looks: stage: the second is 2.0000000000000004, which is not a whole number", fixed = TRUE)
+    expect_error(graph_stages(pair(), levels, looks(c(1, NA)), at = 1), "looks: stage: the second is NA")
+    expect_error(graph_stages(pair(), levels, data.frame(hypothesis = 1:2, stage = 1, p = 0.1), at = 1), "looks: the column hypothesis has numbers")
+    expect_error(graph_stages(pair(), levels, data.frame(hypothesis = "H3", stage = 1, p = 0.1), at = 1), "looks: no hypothesis has the name \"H3\"", fixed = TRUE)
+    expect_equal(refusal_of(graph_stages(pair(), levels, looks(c(4, 4)), at = 1))$line, "malformed: case: arrival 1 stage")
     codes <- data.frame(hypothesis = factor(c("H2", "H1"), levels = c("H2", "H1")), stage = 1, p = c(0.0001, 0.9))
-    expect_equal(graph_stages(pair(), levels, codes)$looks$hypothesis, c("H2", "H1"))
+    expect_equal(graph_stages(pair(), levels, codes, at = 1)$looks$hypothesis, c("H2", "H1"))
     twice <- cbind(looks(1), data.frame(p = 0.001))
-    expect_error(graph_stages(pair(), levels, twice), "looks: the column p occurs twice", fixed = TRUE)
+    expect_error(graph_stages(pair(), levels, twice, at = 1), "looks: the column p occurs twice", fixed = TRUE)
   })
 })
 
@@ -184,7 +314,7 @@ test_that("a list of factors has their texts", {
     frame$hypothesis <- list(factor("2", c("2", "1")), factor("1", c("2", "1")))
     expect_equal(graph_test(pair(c("1", "2")), frame)$rejected, c("1" = FALSE, "2" = TRUE))
     frame$stage <- 1
-    expect_equal(graph_stages(pair(c("1", "2")), list(0.01, 0.01), frame)$looks$hypothesis, c("2", "1"))
+    expect_equal(graph_stages(pair(c("1", "2")), list(0.01, 0.01), frame, at = 1)$looks$hypothesis, c("2", "1"))
   })
 })
 
@@ -223,7 +353,7 @@ test_that("results have the labels of the user", {
     expect_equal(names(graph_simes(graph, c(0.001, 0.9))$rejected), labels)
     check <- graph_check(graph, c(0.001, 0.9), evidence = graph_evidence(graph, c(0.001, 0.9)))
     expect_equal(c(check$listed, check$kept), labels)
-    staged <- graph_stages(graph, stats::setNames(list(0.01, 0.01), labels), data.frame(hypothesis = labels[1], stage = 1, p = 0.001))
+    staged <- graph_stages(graph, stats::setNames(list(0.01, 0.01), labels), data.frame(hypothesis = labels[1], stage = 1, p = 0.001), at = 1)
     expect_equal(names(staged$rejected), labels)
     expect_equal(staged$rejections$hypothesis, labels[1])
   })
@@ -275,10 +405,10 @@ test_that("what no call would read of a graph that was changed is an error", {
       graph[[part]] <- c(H1 = 1, H2 = 0)
       expect_error(graph_test(graph, c(0.02, 0.9)), sprintf(fault, part))
     }
-    # R takes the part by its beginning, and makes a new one
     graph <- pair()
-    graph$component[[1]]$weights["H1"] <- "1"
-    for (call in list(graph_canon, function(x) graph_stages(x, list(0.01, 0.01)), function(x) graph_entangle(x, shares = 1))) {
+    expect_error(graph$component[[1]]$weights["H1"] <- "1", "^a welungad_graph has no part \"component\"")
+    graph[["component"]] <- list(list(weights = c(H1 = "1", H2 = "0")))
+    for (call in list(graph_canon, function(x) graph_stages(x, list(0.01, 0.01), at = 1), function(x) graph_entangle(x, shares = 1))) {
       expect_error(call(graph), sprintf(fault, "component"))
     }
     graph <- pair()

@@ -27,7 +27,7 @@ test_that("refusals name the argument and the place", {
     expect_equal(where(graph_test(graph, c(-0.5, 0.1))), "p: the p-value of low dose is -1/2")
     expect_equal(where(graph_test(graph, c("0.1", "x"))), "p: the p-value of B is \"x\"")
     expect_equal(where(graph_test(graph, 0.1)), "p: the number of the p-values is not that of the hypotheses")
-    expect_equal(where(graph_test(graph, numeric())), "p: it has no number")
+    expect_equal(where(graph_test(graph, numeric())), "p: no p-values are given")
     for (call in list(graph_test, graph_bounds, graph_evidence)) expect_equal(where(call(graph, NULL)), "p: no p-values are given")
     for (long in c("1e-39", "0.5e40", paste0("0.", strrep("3", 39)), paste0("1/", strrep("7", 39)), "12345678901234567890e19")) {
       expect_equal(where(graph_test(graph, c("0.00000000000000000000000000000000000001", long))), paste0("p: the p-value of B is \"", long, "\""))
@@ -49,9 +49,9 @@ test_that("refusals name the argument and the place", {
     expect_equal(where(graph_entangle(one, one, shares = c(-0.5, 0.5))), "shares: the share of graph 1")
     numbered <- graph_create(c(1, 0), matrix(0, 2, 2), hyp_names = c("1", "2"), labels = c("low", "high"))
     expect_equal(where(graph_entangle(numbered, numbered, shares = c(-0.5, 0.5))), "shares: the share of graph 1")
-    expect_equal(where(graph_stages(numbered, list(0.001, -0.001))), "levels: the level of high at stage 1 is out of order")
-    expect_equal(where(graph_stages(graph, list(0.03, 0.02))), "levels: the levels of low dose sum to more than its own")
-    expect_equal(where(graph_stages(graph, list(0.001, -0.001))), "levels: the level of B at stage 1 is out of order")
+    expect_equal(where(graph_stages(numbered, list(0.001, -0.001), at = 1)), "levels: the level of high at stage 1 is out of order")
+    expect_equal(where(graph_stages(graph, list(0.03, 0.02), at = 1)), "levels: the levels of low dose sum to more than its own")
+    expect_equal(where(graph_stages(graph, list(0.001, -0.001), at = 1)), "levels: the level of B at stage 1 is out of order")
     expect_equal(where(graph_bounds(holm(17), rep(0.1, 17))), "graph: it has too many hypotheses")
     expect_equal(where(graph_catalogue("holm", 65)), "size: there are too many hypotheses, or none")
     expect_equal(where(graph_check(graph, c(0.1, 0.2), evidence = "x")), "evidence: a line is not allowed")
@@ -93,6 +93,48 @@ test_that("other refusals carry status, line and advice", {
     expect_equal(wide$status, 5L)
     expect_match(wide$advice, "common denominators")
   })
+})
+
+test_that("what could mislead says what is meant", {
+  each_way(function(way) {
+    graph <- pair()
+    p <- c(0.01, 0.02)
+    # levels as a spending function gives them
+    spent <- refusal_of(graph_stages(graph, rep(list(c(.001525323, .023474677)), 2), at = 1))
+    expect_equal(spent$line, "limit: case: part spend of H1 stage 1")
+    expect_equal(spent$where, "levels: the level of H1 at stage 1 is a fraction of alpha with parts above 10,000")
+    expect_match(spent$advice, "Give this hypothesis a table of levels by weight, .*: rbind[(]\"1/2\" = c[(]..[)], \"1\" = c[(]..[)][)][.]$")
+    tables <- rep(list(rbind("1/2" = c(.0007, .0117), "1" = c(.001525323, .023474677))), 2)
+    expect_equal(graph_stages(graph, tables, at = 1)$plan$count, 2)
+    # no graph, but something that has one
+    x <- graph_test(graph, p)
+    for (has in list(x, list(graph = graph, alpha = "1/40"), graph_bounds(graph, p))) expect_error(graph_test(has, p), "^graph: a graph is needed, .*: x[$]graph is one$")
+    expect_error(graph_test(graph_steps(x), p), "^graph: a graph is needed, .*: x[$]updated_graph and x[$]initial_graph are graphs$")
+    expect_error(graph_test(list(a = 1), p), "^graph: a graph is needed, .* and not a list$")
+    # levels of a call
+    alpha <- refusal_of(graph_test(graph, p, 1 - 0.975))
+    expect_equal(alpha$line, "limit: case: part alpha")
+    expect_match(alpha$amount, "^1/40 is beside it[.]$")
+    expect_equal(refusal_of(graph_test(graph, p, .02281))$amount, "")
+    expect_match(refusal_of(graph_test(graph, p, .02281))$advice, "Adjusted p-values are the same at each alpha, and can be compared with any level[.]$")
+    expect_error(graph_create(p, matrix(c(FALSE, TRUE, TRUE, FALSE), 2)), "^transitions: .* and not of class logical$")
+    none <- refusal_of(graph_test(graph, numeric()))
+    expect_equal(none[c("line", "where", "advice")], list(line = "malformed: case: p count 0", where = "p: no p-values are given", advice = "Give one p-value for each hypothesis."))
+    expect_error(graph_canon(graph, character()), "p: no p-values are given", class = "welungad_refusal")
+    expect_error(graph_create(c(1, 0), rbind(c("0", "1-\\gamma"), "0")), "transitions: the edge at 1, 2 is \".*gamma\", and epsilon is the one variable: replaceVariables")
+    failed <- graph_check(graph, c(0.5, 0.5), evidence = graph_evidence(graph, p))
+    expect_output(print(failed), "The evidence does not hold: step .*: above level\nThe p-value is above the weight that the flows prove, times alpha.")
+  })
+  for (way in list("program", NULL)) with_options(list(welungad.way = way), {
+    expect_error(welungad:::stop_without_way(), "is (not )?found: .*; ./install PREFIX, in a checkout of Welungad, makes both, as its README says$")
+  })
+})
+
+test_that("each line of evidence that fails has its row", {
+  rows <- c("step 1: repeated", "step 1: component 1 flow of A negative", "keep A: component 1 exit of A negative", "step 1: component 1 flow of A exceeds",
+    "step 1: no level", "step 1: above level", "keep A: component 1 exit of A short", "keep A: component 1 level above one", "keep A: legal")
+  advice <- vapply(paste("no:", rows), welungad:::advice, "")
+  expect_true(all(grepl("^[A-Z].*[.]$", advice)))
 })
 
 test_that("each refusal has advice", {
@@ -216,16 +258,16 @@ test_that("the errors of the package name the argument", {
     for (wrong in list(1, NA_character_, character(), c("evidence 2", NA))) {
       expect_error(graph_check(graph, p, evidence = wrong), "^evidence: a result of graph_evidence or the lines of a document are needed$")
     }
-    expect_error(graph_stages(graph, 0.01), "^levels: a list is needed with a vector or a matrix for each hypothesis, or a matrix")
-    expect_error(graph_stages(graph, list(0.01, NA)), "^levels: \"H2\": a number is needed for each stage$")
-    expect_error(graph_stages(graph, list(numeric(), numeric())), "^levels: \"H1\": a number is needed for each stage$")
-    expect_error(graph_stages(graph, list(0.01, matrix(0.01))), "^levels: \"H2\": a matrix of levels has row names: the weights")
-    expect_error(graph_stages(graph, list(0.01, rbind(x = 0.01))), "^levels: \"H2\": the row name \"x\" is not a weight$")
+    expect_error(graph_stages(graph, 0.01, at = 1), "^levels: a list is needed with a vector or a matrix for each hypothesis, or a matrix")
+    expect_error(graph_stages(graph, list(0.01, NA), at = 1), "^levels: \"H2\": a number is needed for each stage$")
+    expect_error(graph_stages(graph, list(numeric(), numeric()), at = 1), "^levels: \"H1\": a number is needed for each stage$")
+    expect_error(graph_stages(graph, list(0.01, matrix(0.01)), at = 1), "^levels: \"H2\": a matrix of levels has row names: the weights")
+    expect_error(graph_stages(graph, list(0.01, rbind(x = 0.01)), at = 1), "^levels: \"H2\": the row name \"x\" is not a weight$")
     levels <- list(0.01, 0.01)
-    expect_error(graph_stages(graph, levels, data.frame(hypothesis = "H1", p = 0.1)), "^looks: a data frame with the columns hypothesis, stage and p")
-    expect_error(graph_stages(graph, levels, data.frame(hypothesis = "H1", stage = 1, p = NA)), "^looks: the p-value of row 1 is missing$")
+    expect_error(graph_stages(graph, levels, data.frame(hypothesis = "H1", p = 0.1), at = 1), "^looks: a data frame with the columns hypothesis, stage and p")
+    expect_error(graph_stages(graph, levels, data.frame(hypothesis = "H1", stage = 1, p = NA), at = 1), "^looks: the p-value of row 1 is missing$")
     for (level in list(0, -0.5, "x", 2)) {
-      expect_equal(refusal_of(graph_stages(graph, levels, alpha = level))$line, refusal_of(graph_test(graph, p, level))$line)
+      expect_equal(refusal_of(graph_stages(graph, levels, alpha = level, at = 1))$line, refusal_of(graph_test(graph, p, level))$line)
     }
     expect_error(as_exact(c("1-\\epsilon", "1"), total = 1), "^x: a sum needs numbers without epsilon, and none missing$")
     frame <- data.frame(A = 1:2)

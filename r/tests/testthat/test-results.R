@@ -12,6 +12,141 @@ test_that("the diabetes trial", {
   })
 })
 
+test_that("p-values are handed back as they were given, and doubles are on the side that was decided", {
+  each_way(function(way) {
+    one <- graph_create(c(H1 = 1), matrix(0, 1, 1))
+    x <- graph_test(one, 0.0125 + 2^-59, 0.0125)
+    expect_false(x$rejected[["H1"]])
+    expect_false(x$adjusted[["H1"]] <= 0.0125)
+    expect_identical(as.data.frame(x)$p, 0.0125 + 2^-59)
+    expect_false(as.data.frame(x)$p <= as.data.frame(x)$level)
+    half <- graph_test(pair(), c(0.0125 + 2^-59, 1))
+    expect_false(half$adjusted[["H1"]] <= 0.025)
+    expect_false(half["H1", "p"] <= half["H1", "level"])
+    # a text that is above the level, and whose nearest double is that of the level
+    above <- graph_test(one, "0.025000000000000000000001")
+    expect_identical(as.data.frame(above)$p, 0.025)
+    expect_identical(as.data.frame(above)$level, 0.025 - 2^-58)
+    expect_identical(above$adjusted[["H1"]], 0.025 + 2^-58)
+    below <- graph_test(one, "0.024999999999999999999999")
+    expect_identical(c(as.data.frame(below)$p, as.data.frame(below)$level, below$adjusted), c(0.025, 0.025, H1 = 0.025))
+    # the level 1, at which a value that is not reached is the double after it
+    expect_identical(unname(graph_test(graph_create(c(1, 0), matrix(0, 2, 2)), c(1, 0.5), 1)$adjusted), c(1, 1 + 2^-52))
+    # a p-value that is rounded up is the one that was given, unless it is rounded up above its level
+    expect_message(x <- graph_test(one, 1e-300), class = "welungad_rounded")
+    expect_identical(as.data.frame(x)$p, 1e-300)
+    tiny <- graph_create(c(H1 = "1/1000000000000000000", H2 = "0"), rbind(c("0", "1/1000000000000000000"), "0"))
+    expect_message(x <- graph_test(tiny, c(0, 1e-300)), class = "welungad_rounded")
+    expect_identical(as.data.frame(x)$p, c(0, 1e-30))
+    expect_identical(unname(x$rejected), c(TRUE, FALSE))
+    expect_false(x["H2", "p"] <= x["H2", "level"])
+    # the levels of a closed test
+    closed <- as.data.frame(graph_test_closure(pair(), c(0.0125 + 2^-59, 1)))
+    expect_equal(unname(0.0125 + 2^-59 <= closed[["level H1"]]), c(FALSE, TRUE, NA)[match(closed$intersection, c("H1, H2", "H1", "H2"))])
+  })
+})
+
+test_that("a result that was changed is an error", {
+  each_way(function(way) {
+    fault <- "^x: the result was changed after it was made: decide again what is meant$"
+    x <- graph_test(diabetes(), c(0.018, 0.01, 0.105, 0.006))
+    calls <- list(print, summary, as.data.frame, plot, graph_steps, graph_rejections, function(x) x["H1"], function(x) graph_report(x, tempfile()))
+    changes <- list(
+      function(x) { x$rejected[["H3"]] <- TRUE; x },
+      function(x) { names(x$rejected) <- rev(names(x$rejected)); x },
+      function(x) { x$order <- rev(x$order); x },
+      function(x) { x$alpha <- "1/20"; x },
+      function(x) { x$adjusted[] <- 0.001; x },
+      function(x) { x$exact$weight[1] <- "1"; x },
+      function(x) { x$graph <- holm(4); x },
+      function(x) { x$case <- sub("p ", "p 0 ", x$case); x$graph <- pair(); x },
+      function(x) { x$report <- x$report[-2]; x }
+    )
+    for (change in changes) for (call in calls) expect_error(call(change(x)), fault)
+    expect_error(graph_steps(changes[[6]](x)), fault)
+    closed <- graph_test_closure(pair(), c(0.001, 0.9))
+    names(closed$rejected) <- c("H2", "H1")
+    for (call in list(print, as.data.frame, plot)) expect_error(call(closed), fault)
+    bounds <- graph_bounds(pair(), c(0.001, 0.9))
+    bounds$graph <- pair(c("A", "B"))
+    for (call in list(print, as.data.frame)) expect_error(call(bounds), fault)
+    staged <- graph_stages(pair(), list(0.01, 0.01), data.frame(hypothesis = "H1", stage = 1, p = 0.001), at = 1)
+    for (change in list(list("rejected", c(H1 = TRUE, H2 = TRUE)), list("alpha", "1/20"), list("graph", pair(c("A", "B"))))) {
+      changed <- staged
+      changed[[change[[1]]]] <- change[[2]]
+      for (call in list(print, as.data.frame, plot)) expect_error(call(changed), fault)
+    }
+  })
+})
+
+test_that("p-values of 0, and those beside fractions, are named below what is printed", {
+  each_way(function(way) {
+    zero <- "The p-value of H1 is 0, which is at most every level above 0: give a value"
+    for (call in list(graph_test, graph_test_closure, graph_bounds, graph_simes)) {
+      expect_output(print(call(pair(), c(0, 0.5))), zero)
+      expect_false(any(grepl("which is at most every level", utils::capture.output(print(call(pair(), c(0.1, 0.5)))))))
+    }
+    p <- c(0.0125 + 2^-59, 1)
+    expect_output(print(graph_test(pair(), p)), "is one unit in the last place above 1/80; its level")
+    for (call in list(graph_test_closure, graph_bounds, graph_simes)) {
+      expect_output(print(call(pair(), p)), "is one unit in the last place above 1/80, with which the")
+      # on the same side of its level
+      expect_false(any(grepl("in the last place", utils::capture.output(print(call(pair(), c(0.2 + 2^-55, 1)))))))
+    }
+  })
+})
+
+test_that("labels of a picture are not those of other hypotheses", {
+  each_way(function(way) {
+    grDevices::pdf(NULL)
+    on.exit(grDevices::dev.off())
+    expect_error(plot(pair(), labels = c("H2", "H1")), "^labels: \"H2\" is another hypothesis$")
+    expect_error(plot(pair(), labels = c(H2 = "low", H1 = "high")), NA)
+  })
+})
+
+test_that("arguments that nothing reads are an error", {
+  each_way(function(way) {
+    p <- c(0.001, 0.9)
+    x <- graph_test(pair(), p)
+    results <- list(pair(), x, graph_test_closure(pair(), p), graph_bounds(pair(), p), graph_stages(pair(), list(0.01, 0.01), at = 1), graph_steps(x),
+      graph_evidence(pair(), p), graph_check(pair(), p, evidence = graph_evidence(pair(), p)))
+    for (result in results) for (call in list(print, as.data.frame)) {
+      expect_error(call(result, exat = TRUE), "^exat: this call has no such argument$")
+      expect_error(call(result, 1, 2, 3, 4, 5, 6), "^there are more arguments than this call has$")
+    }
+    for (result in results[c(1:3, 5:6)]) expect_error(plot(result, lay = cbind(1:2, 1), colour = "red"), "^colour: this call has no such argument$")
+    expect_equal(data.frame(x, check.names = FALSE)$hypothesis, c("H1", "H2"))
+    expect_error(as.data.frame(x, row.names = NULL, optional = TRUE, exact = TRUE), NA)
+  })
+})
+
+test_that("labels are told apart in tables of any width", {
+  each_way(function(way) with_options(list(width = 80), {
+    labels <- paste("Change from baseline in HbA1c at week 26, semaglutide", c(5, 10), "mg vs placebo")
+    graph <- graph_create(stats::setNames(c(1 / 2, 1 / 2), labels), rbind(0:1, 1:0))
+    for (result in list(graph, graph_test_closure(graph, c(0.001, 0.9)), graph_bounds(graph, c(0.001, 0.9)))) {
+      lines <- utils::capture.output(print(result))
+      tables <- lines[seq(2, grep("^  H1: ", lines) - 1)]
+      expect_true(all(nchar(tables) <= 80))
+      expect_equal(sum(grepl("semaglutide", tables)), 0)
+      text <- gsub(" +", " ", paste(lines, collapse = " "))
+      for (i in 1:2) expect_match(text, paste0("H", i, ": ", labels[i]), fixed = TRUE)
+    }
+    # short labels stay, in however wide a table
+    expect_output(print(graph_test_closure(holm(8), rep(0.5, 8))), "H1, H2, H3, H4, H5, H6, H7, H8")
+    # a tag is no other hypothesis's label
+    turned <- graph_create(stats::setNames(c(1 / 2, 1 / 2), c(labels[1], "H1")), rbind(0:1, 1:0))
+    lines <- utils::capture.output(print(graph_test_closure(turned, c(0.001, 0.9))))
+    expect_true(any(grepl("^  h2: H1$", lines)))
+    broken <- graph_create(c("low\ndose" = 1 / 2, B = 1 / 2), rbind(0:1, 1:0))
+    expect_output(print(graph_test(broken, c(0.001, 0.9))), "low\\ndose", fixed = TRUE)
+    expect_output(print(broken), "low_dose for low\\ndose", fixed = TRUE)
+  }))
+  expect_equal(welungad:::shortened(paste0(strrep("1", 61), c(1, 2))), paste0(strrep("1", 61), c(1, 2)))
+  expect_equal(welungad:::shortened(c(strrep("1", 61), "2")), c(paste0(strrep("1", 40), ".."), "2"))
+})
+
 test_that("a value that is not reached is reported", {
   each_way(function(way) {
     graph <- graph_create(c(1, 0), matrix(0, 2, 2))
@@ -49,7 +184,7 @@ test_that("each call decides at the level that it is given", {
     expect_equal(bound_of(graph_bounds(graph, p, alpha = 0.05), 1:2), 2)
     expect_equal(bound_of(graph_bounds(graph, p), 1:2), 0)
     expect_equal(unname(graph_simes(graph, c(0.04, 0.05), alpha = 0.05)$rejected), c(TRUE, TRUE))
-    expect_equal(unname(graph_test_many(graph, rbind(p, p), alpha = 0.05)), matrix(TRUE, 2, 2))
+    expect_equal(unname(as.matrix(graph_test_many(graph, rbind(p, p), alpha = 0.05))), matrix(TRUE, 2, 2))
     expect_equal(graph_canon(graph, p, alpha = 0.05)[1], "alpha 1/20")
     proof <- graph_evidence(graph, p, alpha = 0.05)
     expect_equal(proof$evidence[c(1, 2, 3)], c("evidence 2", "step H1", "step H2"))
@@ -84,7 +219,7 @@ test_that("a closed test with other verdicts than the proved ones stops", {
   each_way(function(way) {
     case <- graph_canon(pair(), c(0.001, 0.9))
     place <- tempfile("stand-in-")
-    for (command in c("bounds", "weights", "canon")) cat(welungad_run(command, case)$text, file = paste0(place, ".", command))
+    for (command in c("bounds", "weights", "canon", "test")) cat(welungad_run(command, case)$text, file = paste0(place, ".", command))
     writeLines(c("#!/bin/sh", "cat \"$0.$1\""), place)
     Sys.chmod(place, "755")
     expect_equal(with_program(place, graph_test_closure(pair(), c(0.001, 0.9))$rejected), c(H1 = TRUE, H2 = FALSE))
@@ -187,7 +322,7 @@ test_that("pictures are drawn", {
     plot(graph_catalogue("improved-parallel", 5, 5), layout = structure(cbind(1:10, rep(2:1, 5)), dimnames = list(paste0("H", 1:10), NULL)))
     closed <- graph_test_closure(diabetes(), c(0.018, 0.01, 0.105, 0.006))
     plot(closed)
-    plot(graph_stages(diabetes(), rep(list(0.001), 4)))
+    plot(graph_stages(diabetes(), rep(list(0.001), 4), at = 1))
     expect_error(plot(graph_bounds(diabetes(), c(0.018, 0.01, 0.105, 0.006))), "x: bounds have no picture: plot(x$graph) draws", fixed = TRUE)
     expect_error(plot(holm(3), layout = cbind(1:2, 1:2)), "layout: a matrix of numbers is needed")
     expect_error(plot(holm(2), layout = cbind(1:2, c(1, Inf))), "layout: a matrix of numbers is needed")
@@ -280,6 +415,74 @@ test_that("each arrow goes from its hypothesis to the other, and each weight is 
     expect_equal(nodes$here, c(FALSE, TRUE, TRUE))
     x <- graph_test(graph, c(A = 0.9, B = 0.001, C = 0.9))
     expect_equal(welungad:::nodes_of(graph, graph, at, x$rejected)$fill, replace(rep(welungad:::fill_plain, 3), 2, welungad:::fill_rejected))
+  })
+})
+
+test_that("gatekeeping graphs are drawn in two rows", {
+  each_way(function(way) {
+    expect_equal(welungad:::default_layout(6, graph_bretz_2011()), cbind(c(-2, 0, 2, -2, 0, 2), rep(c(1, -1), each = 3)))
+    expect_equal(welungad:::default_layout(5, graph_catalogue("parallel", 2, 3))[, 1], c(-1, 1, -2, 0, 2))
+    for (graph in list(holm(6), graph_fixed_sequence(6), graph_gatekeeping_parallel(2, 7), graph_fallback(6))) {
+      expect_equal(welungad:::default_layout(length(graph$names), graph), welungad:::circle_places(length(graph$names)))
+    }
+    # labels beside the circles are above and below them
+    wide <- graph_catalogue("parallel", 3, 3)
+    labels <- paste("Change from baseline in the secondary endpoint number", 1:6, "of the trial, with imputed values")
+    nodes <- welungad:::nodes_of(wide, wide, NULL, NULL, labels)
+    expect_equal(nodes$side, "rows")
+    grDevices::pdf(NULL)
+    on.exit(grDevices::dev.off())
+    graphics::plot.new()
+    points <- welungad:::label_points(nodes, labels, 0.5)
+    expect_true(all(points$up[1:3] > 0 & points$down[1:3] == 0) && all(points$down[4:6] > 0 & points$up[4:6] == 0))
+  })
+})
+
+test_that("no text at an arrow hides the head of an arrow", {
+  each_way(function(way) {
+    for (graph in list(graph_catalogue("improved-parallel", 3, 3), graph_catalogue("improved-parallel", 2, 2), graph_bretz_2011(), holm(5), diabetes())) {
+      for (size in c(5, 7, 10)) for (layout in list(NULL, "circle", "grid")) {
+        grDevices::pdf(NULL, size, size)
+        graphics::par(mar = rep(0.5, 4))
+        graphics::plot.new()
+        places <- welungad:::places_given(layout, graph, NULL, NULL)
+        nodes <- welungad:::nodes_of(graph, graph, places, NULL)
+        picture <- welungad:::picture_of(graph, graph, nodes, 1)
+        heads <- welungad:::head_boxes(picture$arrows, picture$unit, 1)
+        if (!picture$is_crowded) {
+          hidden <- apply(picture$boxes$boxes, 1, function(box) sum(welungad:::hidden_area(box, heads)))
+          expect_equal(max(hidden), 0, info = paste(format(graph), size, layout))
+        }
+        grDevices::dev.off()
+      }
+    }
+  })
+})
+
+test_that("places, labels and colours are the user's", {
+  each_way(function(way) {
+    graph <- graph_create(c("low dose" = 1 / 2, B = 1 / 2, C = 0), rbind(c(0, 1, 0), c(0, 0, 1), c(1, 0, 0)))
+    look <- welungad:::look_of(graph, "grid", c(C = "third", B = "second", low_dose = "first"), c("#6baed6", "#cccccc"), nrow = 1)
+    expect_equal(look$layout, cbind(0:2, 0))
+    expect_equal(look$labels, c("first", "second", "third"))
+    expect_equal(welungad:::places_given("grid", graph, NULL, NULL), cbind(c(0, 1, 0), c(0, 0, -1)))
+    expect_equal(welungad:::places_given(NULL, graph, NULL, 1), cbind(0, -(0:2)))
+    nodes <- welungad:::nodes_of(graph, graph, look$layout, c(FALSE, TRUE, FALSE), look$labels, look$palette)
+    expect_equal(nodes$fill, c("#6baed6", "#cccccc", "#6baed6"))
+    expect_equal(nodes$labels, c("first", "second", "third"))
+    grDevices::pdf(NULL)
+    on.exit(grDevices::dev.off())
+    expect_silent(plot(graph, nrow = 1, labels = c("a", "b", "c"), v_palette = "white"))
+    expect_silent(plot(graph_steps(graph_test(graph, c(0.01, 0.9, 0.9))), layout = "circle", v_palette = c("white", "grey50")))
+    expect_silent(plot(graph_test(graph, c(0.01, 0.9, 0.9)), ncol = 2, labels = c("a", "b", "c")))
+    if (requireNamespace("igraph", quietly = TRUE)) expect_silent(plot(graph, layout = igraph::layout_in_circle))
+    expect_error(plot(graph, labels = c("a", "a", "b")), "^labels: the name \"a\" occurs twice$")
+    expect_error(plot(graph, labels = c("a", "b")), "^labels: 2 given for 3 hypotheses$")
+    expect_error(plot(graph, labels = c(A = "a", B = "b", C = "c")), "^labels: no hypothesis has the name \"A\"")
+    expect_error(plot(graph, layout = "ring"), "^layout: one of \"grid\", \"circle\" is needed")
+    expect_error(plot(graph, nrow = 1, ncol = 2), "^nrow: 1 rows of 2 have no room for 3 hypotheses$")
+    expect_error(plot(graph, v_palette = "no colour"), "^v_palette: ")
+    expect_error(plot(graph, v_palette = c("white", "grey", "black")), "^v_palette: one or two colours are needed$")
   })
 })
 

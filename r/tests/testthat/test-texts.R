@@ -84,7 +84,7 @@ test_that("no option of R changes what is handed in or printed", {
       for (it in list(x, graph_steps(x), graph_test_closure(diabetes(), c(0.018, 0.01, 0.105, 0.006)))) expect_output(print(it))
       expect_output(print(as_exact(c(0.1 + 0.2, 1 / 3))), "0.3333333", fixed = TRUE)
       levels <- list(H1 = 0.01, H2 = 0.01)
-      staged <- graph_stages(pair(), levels, data.frame(hypothesis = "H1", stage = 1, p = 0.001))
+      staged <- graph_stages(pair(), levels, data.frame(hypothesis = "H1", stage = 1, p = 0.001), at = 1)
       expect_output(print(staged), "levels 0.01 at weight 1", fixed = TRUE)
     })
   })

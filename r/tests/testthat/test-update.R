@@ -70,8 +70,10 @@ test_that("a removal for which the program prints no weights is not called compa
   each_way(function(way) {
     graph <- graph_catalogue("fixed-sequence", 17)
     update <- graph_update(graph, "H2")
-    expect_false(update$compared)
-    expect_output(print(update), "Not all weights could be compared with the proved call: it prints none for these removals.", fixed = TRUE)
+    prints_updates <- way == "library" && welungad:::has_update()
+    expect_equal(update$compared, prints_updates)
+    sentence <- "Not all weights could be compared with the proved call: it prints none for these removals."
+    expect_equal(any(grepl(sentence, format(update), fixed = TRUE)) || any(grepl(sentence, capture.output(print(update)), fixed = TRUE)), !prints_updates)
     expect_true(graph_update(graph, c("H1", "H2"))$compared)
   })
 })

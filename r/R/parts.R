@@ -1,0 +1,111 @@
+# Parts of results and of graphs. R takes a part by the beginning of its name, and answers NULL for one that is not there, so a name that
+# another package has would pass for an empty part. Here a name that is not that of a part is an error.
+
+# What other packages call parts of their results, and where they are here.
+parts_elsewhere <- c(
+  outputs = "the parts of a result are in the result itself, such as x$rejected and x$adjusted",
+  inputs = "x$graph, x$p and x$alpha have them",
+  adjusted_p = "it is x$adjusted",
+  adjPValues = "it is x$adjusted",
+  test_values = "as.data.frame(x) has them",
+  details = "graph_steps(x) and as.data.frame(graph_test_closure(graph, p)) have them",
+  graphs = "graph_steps(x)$graphs has them",
+  valid_orderings = "graph_rejection_orderings(x) has them",
+  m = "it is x$transitions",
+  nodeAttr = "as_graphMCP(x) has it"
+)
+
+# The part of this name; an error if there is none. `empty` has the names of parts that may be absent.
+part_of <- function(x, name, empty = character()) {
+  parts <- unclass(x)
+  at <- match(name, names(parts))
+  if (!is.na(at)) return(.subset2(parts, at))
+  if (name %in% empty) return(NULL)
+  elsewhere <- if (name %in% names(parts_elsewhere)) paste0(": ", parts_elsewhere[[name]])
+  stop("a ", class(x)[1], " has no part ", quoted(name), if (is.null(elsewhere)) c(", but ", listed(names(parts), 20L)) else elsewhere,
+    call. = FALSE)
+}
+
+`$.welungad_test` <- function(x, name) part_of(x, name)
+
+`$.welungad_closure` <- function(x, name) part_of(x, name)
+
+`$.welungad_bounds` <- function(x, name) part_of(x, name)
+
+`$.welungad_stages` <- function(x, name) part_of(x, name)
+
+`$.welungad_study` <- function(x, name) part_of(x, name)
+
+`$.welungad_evidence` <- function(x, name) part_of(x, name)
+
+`$.welungad_check` <- function(x, name) part_of(x, name)
+
+`$.welungad_update` <- function(x, name) part_of(x, name)
+
+`$.welungad_summary` <- function(x, name) part_of(x, name)
+
+`$.welungad_exact` <- function(x, name) part_of(x, name)
+
+# A result's part by a text in two brackets; by a number, as a list has it.
+element_of <- function(x, i) if (is.character(i) && length(i) == 1 && !is.na(i)) part_of(x, i) else .subset2(unclass(x), i)
+
+`[[.welungad_test` <- function(x, i, ...) element_of(x, i)
+
+`[[.welungad_closure` <- function(x, i, ...) element_of(x, i)
+
+`[[.welungad_bounds` <- function(x, i, ...) element_of(x, i)
+
+`[[.welungad_stages` <- function(x, i, ...) element_of(x, i)
+
+`[[.welungad_study` <- function(x, i, ...) element_of(x, i)
+
+`[[.welungad_check` <- function(x, i, ...) element_of(x, i)
+
+`[[.welungad_evidence` <- function(x, i, ...) element_of(x, i)
+
+`[[.welungad_update` <- function(x, i, ...) element_of(x, i)
+
+# ---- graphs
+
+# A part of a graph, or its weights or edges as numbers.
+part_of_graph <- function(x, name) {
+  switch(name,
+    hypotheses = weights_in(x),
+    transitions = edges_in_numbers(x),
+    part_of(x, name, c("read", "written"))
+  )
+}
+
+`$.welungad_graph` <- function(x, name) part_of_graph(x, name)
+
+`[[.welungad_graph` <- function(x, i, ...) if (is.character(i) && length(i) == 1) part_of_graph(x, i) else .subset2(unclass(x), i)
+
+# The hypotheses, by label.
+names.welungad_graph <- function(x) part_of(x, "labels")
+
+# A row and a column for each hypothesis.
+dim.welungad_graph <- function(x) rep(length(part_of(x, "names")), 2L)
+
+# The edges: numbers, or exact texts.
+as.matrix.welungad_graph <- function(x, exact = FALSE, ...) if (exact) edges_of_one(x) else edges_in_numbers(x)
+
+str.welungad_graph <- function(object, ...) utils::str(unclass(object), ...)
+
+.DollarNames.welungad_graph <- function(x, pattern = "") grep(pattern, c("hypotheses", "transitions", names(unclass(x))), value = TRUE)
+
+# The weights over all components, as doubles; of one with epsilon the limit, with which the hypothesis is tested.
+weights_in <- function(graph) stats::setNames(double_of(total_weights(graph)), graph$labels)
+
+# The edges of a graph of one component: doubles, or texts if there is an epsilon.
+edges_in_numbers <- function(graph) {
+  edges <- edges_of_one(graph)
+  if (any(grepl(epsilon, edges, fixed = TRUE))) edges else matrix(double_of(as.vector(edges)), nrow(edges), dimnames = dimnames(edges))
+}
+
+edges_of_one <- function(graph) {
+  if (length(graph$components) != 1) {
+    stop("a graph of ", whole_text(length(graph$components)), " components has a matrix for each: graph$components[[1]]$edges is the first",
+      call. = FALSE)
+  }
+  graph$components[[1]]$edges
+}

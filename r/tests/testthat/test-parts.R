@@ -1,0 +1,54 @@
+test_that("graphs have their weights and edges as numbers", {
+  each_way(function(way) {
+    graph <- graph_create(c("low dose" = 1 / 3, B = 2 / 3), rbind(c(0, 1 / 2), c(1, 0)))
+    labels <- c("low dose", "B")
+    expect_identical(graph$hypotheses, c("low dose" = 1 / 3, B = 2 / 3))
+    expect_identical(graph$transitions, matrix(c(0, 1, 1 / 2, 0), 2, dimnames = list(labels, labels)))
+    expect_identical(as.matrix(graph), graph$transitions)
+    expect_identical(as.matrix(graph, exact = TRUE)[1, 2], "1/2")
+    expect_identical(graph[["hypotheses"]], graph$hypotheses)
+    expect_identical(names(graph), labels)
+    expect_identical(dim(graph), c(2L, 2L))
+    expect_identical(graph$names, c("low_dose", "B"))
+    expect_null(welungad:::graphs_without(graph, 2)[[2]]$written)
+    improved <- graph_gatekeeping_improved(2, 2)
+    expect_identical(improved$transitions["H3", "H1"], "\\epsilon")
+    expect_identical(entangled()$hypotheses, c(A = 0.5, B = 0.5, C = 0, D = 0))
+    expect_error(entangled()$transitions, "a graph of 2 components has a matrix for each")
+    # the limit, with which it is tested
+    expect_identical(graph_update(improved, "H3")$updated_graph$hypotheses, c(H1 = 0.5, H2 = 0.5, H4 = 0))
+    expect_output(str(graph), "components")
+    expect_identical(utils::.DollarNames(graph, "^hyp"), "hypotheses")
+    # graphs with the same parts are equal, and others are not
+    expect_true(isTRUE(all.equal(graph, graph_create(c("low dose" = 1 / 3, B = 2 / 3), rbind(c(0, 1 / 2), c(1, 0))))))
+    expect_false(isTRUE(all.equal(graph, graph_create(c("low dose" = 1 / 3, B = 1 / 3), rbind(c(0, 1 / 2), c(1, 0))))))
+  })
+})
+
+# The part after `$` of a computed name.
+part_by <- function(x, name) eval(call("$", quote(x), as.name(name)))
+
+test_that("a name that is no part of a result is an error, and so is the beginning of one", {
+  each_way(function(way) {
+    p <- c(0.018, 0.01, 0.105, 0.006)
+    x <- graph_test(diabetes(), p)
+    results <- list(diabetes(), x, graph_test_closure(diabetes(), p), graph_bounds(diabetes(), p), graph_simes(diabetes(), p), graph_steps(x), summary(x),
+      graph_evidence(diabetes(), p), graph_check(diabetes(), p, evidence = graph_evidence(diabetes(), p)), as_exact(p), graph_stages(diabetes(), rep(list(0.001), 4), at = 1),
+      summary(graph_test_many(diabetes(), rbind(p))))
+    for (result in results) {
+      kind <- class(result)[1]
+      expect_error(result$somebody, paste0("^a ", kind, " has no part \"somebody\", but "), info = kind)
+      part <- names(unclass(result))[1]
+      expect_identical(part_by(result, part), unclass(result)[[1]], info = kind)
+      begun <- substr(part, 1, nchar(part) - 1)
+      expect_error(part_by(result, begun), paste0("has no part \"", begun, "\""), info = kind)
+      if (kind != "welungad_exact" && kind != "welungad_summary" && kind != "welungad_many_summary") expect_error(result[["somebody"]], "has no part", info = kind)
+    }
+    expect_error(x$outputs$adjusted_p, "has no part \"outputs\": the parts of a result are in the result itself, such as x$rejected", fixed = TRUE)
+    expect_error(x$adj, "has no part \"adj\"")
+    expect_error(graph_bounds(diabetes(), p)$rejected, "has no part \"rejected\"")
+    expect_identical(x[["adjusted"]], x$adjusted)
+    expect_error(diabetes()$component, "has no part \"component\"")
+    expect_output(str(x), "adjusted")
+  })
+})
