@@ -108,7 +108,7 @@ def expression(text, where):
             value = times(value, [1 / other[0]] if divides else other)
         return value
     def factor():
-        if re.match("[0-9.]", tokens[0]):
+        if re.match("[.]?[0-9]", tokens[0]):
             return trimmed([numeral(tokens.pop(0), where)])
         if take(["(", "\\epsilon"]) == "(":
             nonlocal depth

@@ -6,6 +6,7 @@ with the scripts of this one and a stand-in for rt.
 import glob
 import os
 import re
+import shlex
 import shutil
 import signal
 import stat
@@ -65,10 +66,16 @@ uint8_t welungad_test_rows(const uint8_t *kase, size_t kase_len, const uint64_t 
   if (!kase || !p || !rejected || !statuses) abort();
   return kase_len + p_len + rejected_len + statuses_len == 0 ? 3 : 0;
 }
+uint8_t welungad_update(const uint8_t *kase, size_t kase_len, const size_t *removed, size_t removed_len, uint8_t *out,
+                        size_t out_len, size_t *needed) {
+  if (!kase || !removed || !out || !needed) abort();
+  *needed = kase_len + removed_len + out_len;
+  return *needed == 0 ? 3 : 0;
+}
 """
 
 # What the library exports.
-EXPORTED = "welungad_interface welungad_read welungad_run welungad_test_rows welungad_version".split()
+EXPORTED = "welungad_interface welungad_read welungad_run welungad_test_rows welungad_update welungad_version".split()
 
 # A caller that has nothing to point at.
 CALLER = """
@@ -81,14 +88,15 @@ int main(void) {
   if (welungad_run(NULL, 0, NULL, 0, NULL, 0, out, 3, &needed) != WELUNGAD_DONE) return 2;
   if (welungad_read(NULL, 0, NULL, 0) != WELUNGAD_DONE) return 3;
   if (welungad_test_rows(NULL, 0, NULL, 0, NULL, 0, NULL, 0) != WELUNGAD_MALFORMED) return 4;
+  if (welungad_update(NULL, 0, NULL, 0, NULL, 0, &needed) != WELUNGAD_MALFORMED || needed != 0) return 5;
   printf("%s %u\\n", welungad_version(), (unsigned)welungad_interface());
   return 0;
 }
 """
 
 # The files of the checkout that a test has, and some that an installation has or leaves out.
-SCRIPTS = "welungad install uninstall unproved tools/stamps.sh c/build.sh r/configure .ci/run bench/kept.py".split()
-AS_HERE = "VERSION c/calls.c c/proved.names c/welungad.h c/welungad.map c/examples/decide.c docs/welungad.1".split()
+SCRIPTS = "welungad install uninstall unproved tools/stamps.sh tools/placing.sh c/build.sh r/configure .ci/run bench/kept.py".split()
+AS_HERE = "VERSION c/calls.c c/proved.names c/welungad.h c/welungad.map c/examples/decide.c docs/welungad.1 tools/welungad-qualify".split()
 INSTALLED = (
     "README.md CHANGES.md LICENSE LICENSE-MIT LICENSE-APACHE CITATION.cff docs/FORMATS.md docs/pictures/holm.svg examples/holm.txt "
     "tools/draw.py c/README.md python/README.md python/pyproject.toml python/welungad/__init__.py python/welungad/py.typed "
@@ -275,6 +283,21 @@ class Program(Room):
         os.rename(os.path.join(self.top, "tools", "stamps.sh"), self.path("stamps.sh"))
         self.assertEqual(self.run_script("welungad")[:2], (125, ""))
 
+    def test_another_program(self):
+        """Whether a program that the stamp does not name, such as a script at its place, is refused and not run."""
+        self.build()
+        path = os.path.join(self.top, "crates", "welungad", "out", "welungad")
+        with open(path, "rb") as file:
+            own = file.read()
+        for content_of_it in (b"#!/bin/sh\necho another\n", own + b"\0"):
+            with open(path, "wb") as file:
+                file.write(content_of_it)
+            self.is_refused(self.run_script("welungad", "test"), "is not the program that was proved: welungad is not the file that was built; run rm -f ",
+                            status=125)
+        self.is_refused(self.run_script("welungad", PATH=self.path_without("sha256sum")), "has no checksum, since sha256sum says none", status=125)
+        os.remove(os.path.join(self.top, "crates", "welungad", "out", "stamp"))
+        self.assertEqual(self.run_script("welungad")[:2], (0, "2 0\n"))
+
     def test_link(self):
         """Whether a symbolic link to the script runs it, from any folder and under CDPATH."""
         self.build()
@@ -403,8 +426,8 @@ class Install(Room):
     def wanted(self):
         """Returns the files of an installation."""
         release = content("VERSION").strip()
-        names = {f"share/welungad/{name}" for name in (*INSTALLED, "VERSION", "c/examples/decide.c", "identity", "installed", "uninstall")}
-        names |= {"bin/welungad", "share/man/man1/welungad.1", "include/welungad.h", "lib/libwelungad.a", "lib/pkgconfig/welungad.pc"}
+        names = {f"share/welungad/{name}" for name in (*INSTALLED, "VERSION", "c/examples/decide.c", "digests", "identity", "installed", "uninstall")}
+        names |= {"bin/welungad", "bin/welungad-qualify", "share/man/man1/welungad.1", "include/welungad.h", "lib/libwelungad.a", "lib/pkgconfig/welungad.pc"}
         return names | {f"lib/libwelungad.so{end}" for end in ("", ".1", f".{release}")}
 
     def test_whole(self):
@@ -451,6 +474,21 @@ class Install(Room):
             self.install()
             with open(os.path.join(self.prefix, "share", "welungad", "identity"), encoding="utf-8") as file:
                 self.assertIn("checkout edited\n", file.read(), name)
+
+    def test_digests(self):
+        """Whether `digests` has the checksum of each file but the program, the library, the lists and the pkg-config file, which names
+        the prefix, and `identity` that of `digests`."""
+        self.install()
+        place = os.path.join(self.prefix, "share", "welungad")
+        with open(os.path.join(place, "digests"), encoding="utf-8") as file:
+            named = {line.split("  ", 1)[1].strip() for line in file}
+        lists = {f"share/welungad/{name}" for name in ("digests", "identity", "installed")}
+        libraries = {name for name in self.wanted() if name.startswith("lib/libwelungad")}
+        self.assertEqual(named, self.wanted() - lists - libraries - {"bin/welungad", "lib/pkgconfig/welungad.pc"})
+        self.assertEqual(self.call(["sha256sum", "--quiet", "--check", "share/welungad/digests"], where=self.prefix), (0, "", ""))
+        digest = self.call(["sha256sum", os.path.join(place, "digests")])[1].split()[0]
+        with open(os.path.join(place, "identity"), encoding="utf-8") as file:
+            self.assertIn(f"sha256 digests {digest}\n", file.read())
 
     def test_no_status(self):
         """Whether a git that does not say what is edited, or which commit it is, is an error, with the library and without it."""
@@ -550,7 +588,7 @@ class Install(Room):
         self.assertEqual(self.call(["sh", "-c", shell, os.path.join(self.top, "install"), self.prefix])[0], 0)
         for name, (mode, held) in snapshot(self.prefix).items():
             if not os.path.islink(os.path.join(self.prefix, name)):
-                is_run = held is None or name in ("bin/welungad", "share/welungad/uninstall", "share/welungad/r/configure")
+                is_run = held is None or name in ("bin/welungad", "bin/welungad-qualify", "share/welungad/uninstall", "share/welungad/r/configure")
                 self.assertEqual(oct(mode), oct(0o755 if is_run else 0o644), name)
         if IS_ROOT:
             self.assertEqual(self.call([os.path.join(self.prefix, "bin", "welungad")], user=NOBODY), (0, "1 0\n", ""))
@@ -677,7 +715,7 @@ class Install(Room):
         """Whether a list or a folder that can't be written leaves a prefix that is there as it was."""
         self.write("../a prefix/bin/other", "another program")
         before = snapshot(self.prefix)
-        for tool, numbers in (("sort", range(1, 5)), ("mkdir", (20, 24))):
+        for tool, numbers in (("sort", range(1, 6)), ("mkdir", (20, 24))):
             for number in numbers:
                 self.write(f"../full/{tool}", f'#!/bin/sh\necho x >>"$COUNT"\n[ "$(grep -c . "$COUNT")" -ne {number} ] || exit 2\n'
                            f'exec {shutil.which(tool)} "$@"\n', 0o755)
@@ -801,8 +839,9 @@ class Library(Room):
         self.write("VERSION", "9.9.9\n")
         self.builds()
         for words in (["-D", self.out("libwelungad.so")], ["-g", self.out("libwelungad.a")]):
-            names = re.findall(r" [A-Z] (\S+)", self.call(["nm", "--defined-only", *words])[1])
-            self.assertEqual(sorted(names), EXPORTED)
+            names = re.findall(r" [B-Z] (\S+)", self.call(["nm", "--defined-only", *words])[1])
+            self.assertEqual(sorted(name.partition("@@")[0] for name in names), EXPORTED)
+            self.assertEqual({name.partition("@@")[2] for name in names}, {"WELUNGAD_1" if "-D" in words else ""})
         self.assertIn("[libwelungad.so.1]", self.call(["readelf", "-d", self.out("libwelungad.so")])[1])
         self.assertEqual(os.readlink(self.out("libwelungad.so")), "libwelungad.so.1")
         self.assertEqual(os.readlink(self.out("libwelungad.so.1")), "libwelungad.so.9.9.9")
@@ -1002,17 +1041,18 @@ if __name__ == "__main__":
 
 @HAS_GIT
 class Gate(Room):
-    CHECKS = ("bench/prose.py", "bench/quotes.py", "c/run_tests.sh", "python/run_tests.sh", "tools/run_tests.sh", "r/run_tests.sh")
+    CHECKS = ("bench/prose.py", "bench/quotes.py", "c/run_tests.sh", "python/run_tests.sh", "tools/run_tests.sh", "r/run_tests.sh",
+              "bench/allocations.sh --short", "bench/study.py --untimed")
 
     def setUp(self):
         super().setUp()
         self.write("../kit/bin/rt", KEEPER, 0o755)
         for name in ("low", "high"):
             self.write(f"crates/{name}/src/lib.rt", "")
-        listed = re.search(r"(?m)^checks=\((.*)\)$", content(".ci", "run"))
-        self.checks = listed[1].split()
+        listed = re.search(r"(?ms)^checks=\((.*?)\)$", content(".ci", "run"))
+        self.checks = shlex.split(listed[1])
         for name in self.checks:
-            self.write(name, "#!/bin/sh\necho checked\n", 0o755)
+            self.write(name.split(" ")[0], "#!/bin/sh\necho checked $*\n", 0o755)
         self.commit()
 
     def out(self, name, *names):
@@ -1036,6 +1076,7 @@ class Gate(Room):
         self.assertLessEqual(set(self.CHECKS), set(self.checks))
         status, printed, _ = self.run_script(".ci/run")
         self.assertEqual((status, printed.splitlines()[-1]), (0, f"beside: {len(self.checks)} passed, 0 skipped, 0 failed"))
+        self.assertIn("\nchecked --short\n", printed)
         self.write("c/run_tests.sh", "#!/bin/sh\necho 'c: skipped, since valgrind is missing'\nexit 77\n", 0o755)
         status, printed, _ = self.run_script(".ci/run")
         self.assertEqual(status, 0)
@@ -1125,6 +1166,7 @@ class Release(unittest.TestCase):
         self.assertRegex(release, r"\A\d+\.\d+\.\d+\Z")
         self.assertIn(f"\nversion: {release}\n", content("CITATION.cff"))
         self.assertIn(f"\nVersion: {release}\n", content("r", "DESCRIPTION"))
+        self.assertIn(f'\n#define WELUNGAD_VERSION "{release}"\n', content("c", "welungad.h"))
         self.assertIn(f'"welungad {release}"', content("docs", "welungad.1").splitlines()[0])
         self.assertRegex(content("CHANGES.md"), rf"(?m)^.*release.*\b{re.escape(release)}\b")
         for name in glob.glob(os.path.join(TOP, "python", "**", "*.py"), recursive=True):
@@ -1139,7 +1181,7 @@ class Release(unittest.TestCase):
         self.assertRegex(content("r", "LICENSE"), r"\AYEAR: \d{4}\nCOPYRIGHT HOLDER: .+\n\Z")
         self.assertIn("\nLicense: MIT + file LICENSE | Apache License 2.0\n", content("r", "DESCRIPTION"))
         for name in glob.glob(os.path.join(TOP, "python", "pyproject.toml")):
-            self.assertIn('license = {text = "MIT OR Apache-2.0"}', content(name))
+            self.assertIn('\nlicense = "MIT OR Apache-2.0"\n', content(name))
         for name in ("LICENSE", "LICENSE-MIT", "r/LICENSE", "r/DESCRIPTION", "CITATION.cff"):
             self.assertIn("Welungad maintainers", content(name))
 

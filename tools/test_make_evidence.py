@@ -17,6 +17,7 @@ import checkers  # noqa: E402
 import closed_test  # noqa: E402
 import make_evidence  # noqa: E402
 import test_tools  # noqa: E402
+from staged_case import staged_case_of  # noqa: E402
 
 
 def document(case, report=None):
@@ -109,7 +110,7 @@ end
             with self.subTest(number, case=made.text()):
                 status, said = check_evidence.answer(made.text().encode(), document(made.text()).encode())
                 self.assertEqual(status, 0, said)
-                decided = [line for line in closed_test.report(check_evidence.read_case(made.text())) if line.startswith("rejected")]
+                decided = [line for line in closed_test.report(staged_case_of(made.text().encode())) if line.startswith("rejected")]
                 self.assertEqual(sorted(said.split("\n")[1].split()[1:]), sorted(decided[0].split()[1:]))
 
     def test_expressions(self):

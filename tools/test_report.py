@@ -1,4 +1,4 @@
-"""Tests of report.py and of what it uses: reports.py, refusals.py, findings.py. `tools/run_tests.sh` runs them.
+"""Tests of the page of a decision, and of report.py, which writes it. `tools/run_tests.sh` runs them.
 
     python3 test_report.py --pages N [--seed S]
 
@@ -19,17 +19,16 @@ from unittest import mock
 
 TOOLS = os.path.dirname(os.path.abspath(__file__))
 TOP = os.path.dirname(TOOLS)
-sys.path[:0] = [TOOLS, os.path.join(TOP, "bench"), os.path.join(TOP, "python", "tests")]
+sys.path[:0] = [TOOLS, os.path.join(TOP, "bench"), os.path.join(TOP, "python", "tests"), os.path.join(TOP, "python")]
 
 import acceptance_rows  # noqa: E402
-import check_evidence  # noqa: E402
 import checkers  # noqa: E402
-import draw  # noqa: E402
-import findings  # noqa: E402
-import refusals  # noqa: E402
-import report  # noqa: E402
-import reports  # noqa: E402
 import test_tools  # noqa: E402
+from welungad import _files, _page, _picture, _refusals, _reports  # noqa: E402
+from welungad._case import Canonical  # noqa: E402
+from welungad._findings import Findings  # noqa: E402
+from welungad._refusals import BadAnswer  # noqa: E402
+from welungad._updates import Calls  # noqa: E402
 
 VOID = {"meta", "br"}
 
@@ -82,12 +81,23 @@ def read(page):
     return Reader(page).page
 
 
+def text_of_picture(figure):
+    return "".join(it.text() for it in figure.all("text"))
+
+
 def rows_of(page, name):
     """The texts of the cells of the table whose caption has this name."""
     for table in page.all("table"):
         if next(table.all("caption")).attributes["id"] == name:
             return [[cell.text() for cell in row.all("th", "td")] for row in table.all("tr")]
     return None
+
+
+def pre_of(page, name):
+    """The first text in a section, by the name of the section."""
+    parts = [*page.all("h2", "pre")]
+    at = next(n for n, it in enumerate(parts) if it.attributes.get("id") == name)
+    return next(it.text() for it in parts[at:] if it.name == "pre")
 
 
 # ---- two hypotheses, whose reports are by hand
@@ -132,12 +142,45 @@ ANSWERS = {
 }
 
 
+CHECKED = "yes\nlisted H1\nkept H2\nend\n"
+
+
 def answering(**others):
     """A function that answers as the program does, but for the commands that are given."""
     def run(words, case):
-        given = others.get(words[0], ANSWERS.get((words[0], case), (1, "")))
+        given = others.get(words[0], CHECKED if words[0] == "check" else ANSWERS.get((words[0], case), (1, "")))
         return given if isinstance(given, tuple) else (0, given)
     return run
+
+
+def calls(run):
+    """The calls that a function answers with texts."""
+    def in_bytes(words, case):
+        status, text = run(words, case)
+        return status, text.encode("latin-1")
+    return Calls(in_bytes, check=lambda case, evidence: in_bytes(["check", evidence], case))
+
+
+def document(case, run, **how):
+    return _page.document(case, calls(run), **how)
+
+
+def page_of(case, run, **how):
+    return document(case, run, **how)[1]
+
+
+def read_report(command, text, names):
+    functions = {"test": _reports.read_decision, "stages": _reports.read_stages, "bounds": _reports.read_bounds}
+    return _reports.read_whole(command, text, dict(zip(names, names)), functions[command])
+
+
+def put_program(path, script):
+    """Writes a program with the stamp that says that it is the proved one."""
+    with open(path, "w", encoding="utf-8") as file:
+        file.write(script)
+    os.chmod(path, 0o755)
+    with open(os.path.join(os.path.dirname(path), "stamp"), "w", encoding="ascii") as file:
+        file.write(f"sha256 {os.path.basename(path)} {hashlib.sha256(script.encode()).hexdigest()}\n")
 
 
 class Form(unittest.TestCase):
@@ -169,7 +212,7 @@ class Form(unittest.TestCase):
 class Pages(Form):
     def test_two_hypotheses(self):
         """Whether the page has the numbers of the reports, which are by hand."""
-        page = self.check_form(report.page(CASE, answering(), file="two.txt", program=[("SHA-256 digest of the program", "abc")]))
+        page = self.check_form(page_of(CASE, answering(), file="two.txt", program=[("SHA-256 digest of the program", "abc")]))
         head = ["Hypothesis", "Decision", "p-value", "Level when tested", "Weight when tested", "Adjusted p-value", "Weight at the start",
                 "Level at the start"]
         half, level = "1/2 = 0.5", "1/40 = 0.025"
@@ -189,9 +232,14 @@ class Pages(Form):
         self.assertEqual([next(it.all("figcaption")).text() for it in pictures], ["Before the first rejection", "After step 1: H1 is rejected, the end"])
         self.assertEqual([next(it.all("desc")).text() for it in pictures],
                          ["H1 has the weight 1/2. H2 has the weight 1/2.", "Rejected: H1. H2 has the weight 1/2."])
-        pre = [it.text() for it in page.all("pre")]
-        self.assertEqual(pre[:3], [CASE.rstrip("\n"), CANON, TEST])
-        self.assertIn("welungad canon < two.txt > case.txt\n", pre[3])
+        self.assertEqual([pre_of(page, name) for name in ("given", "case", "report")], [CASE.rstrip("\n"), CANON, TEST])
+        self.assertIn("welungad canon < two.txt > case.txt\n", pre_of(page, "program"))
+        self.assertEqual(rows_of(page, "graph-1")[1:], [["H1", half, "nothing"], ["H2", half, "nothing"]])
+        self.assertEqual(rows_of(page, "checks")[1:], [
+            ["welungad check", CHECKED], ["check_evidence.py", CHECKED],
+            ["closed_test.py", "alpha 1/20\nrejected H1\nkept H2 in H2\nadjusted H1 1/20\nadjusted H2 13/250\nend\n"],
+        ])
+        self.assertIn(hashlib.sha256(ANSWERS["evidence", CANON].encode()).hexdigest(), page.text())
         self.assertIn(hashlib.sha256(CANON.encode()).hexdigest(), page.text())
         self.assertIn("SHA-256 digest of the programabc", page.text())
         self.assertIn("At the level 1/20 = 0.05, the test rejects H1. It does not reject H2.", page.text())
@@ -223,79 +271,72 @@ class Pages(Form):
                     first = (words[0], case) in ANSWERS and case in (CASE, CANON)
                     return (0, text) if words[0] == command and first else answering()(words, case)
 
-                with self.subTest(command=command, text=text), self.assertRaises(reports.NotAReport):
-                    report.page(CASE, run)
+                with self.subTest(command=command, text=text), self.assertRaises(BadAnswer):
+                    page_of(CASE, run)
 
     def test_another_case(self):
         """Whether there is no page if the canonical text is that of another case than the user gave, or not canonical."""
         for old, new in [("0.026", "0.027"), ("alpha 0.05", "alpha 0.06"), ("H2", "H3"), ("weights 1/2", "weights 1/3"), ("1/2\n", "1/2\nedge H1 H2 1\n")]:
-            with self.subTest(new), self.assertRaises(reports.NotAReport):
-                report.page(CASE.replace(old, new), answering(canon=(0, CANON)))
-        with self.assertRaises(reports.NotAReport):
-            report.page(CASE, lambda words, case: (0, START) if (words[0], case) == ("canon", CANON) else answering()(words, case))
-        with self.assertRaisesRegex(reports.NotAReport, "^the program takes a case that check_evidence.py refuses: malformed: case: weight sum"):
-            report.page(CASE.replace("weights 1/2", "weights 1"), answering(canon=(0, CANON)))
+            with self.subTest(new), self.assertRaises(BadAnswer):
+                page_of(CASE.replace(old, new), answering(canon=(0, CANON)))
+        with self.assertRaises(BadAnswer):
+            page_of(CASE, lambda words, case: (0, START) if (words[0], case) == ("canon", CANON) else answering()(words, case))
+        with self.assertRaisesRegex(BadAnswer, "^the program takes a case that check_evidence.py refuses: malformed: case: weight sum"):
+            page_of(CASE.replace("weights 1/2", "weights 1"), answering(canon=(0, CANON)))
         sheet = "hypothesis,weight,p,H1,H2\nH1,1/2,0.025,0,0\nH2,0.5,0.026,0,0\n"
         whole = '{"alpha":"0.05","hypotheses":["H1","H2"],"p":["1/40","0.026"],"components":[{"weights":["1/2","1/2"],"edges":[]}]}'
         for form, alpha, given in [("csv", "0.05", sheet), ("json", None, whole)]:
-            self.assertIn("<h1>", report.page(given, answering(canon=CANON), form=form, alpha=alpha))
-            with self.subTest(form), self.assertRaises(reports.NotAReport):
-                report.page(given.replace("0.026", "0.027"), answering(canon=CANON), form=form, alpha=alpha)
+            self.assertIn("<h1>", page_of(given, answering(canon=CANON), form=form, alpha=alpha))
+            with self.subTest(form), self.assertRaises(BadAnswer):
+                page_of(given.replace("0.026", "0.027"), answering(canon=CANON), form=form, alpha=alpha)
 
     def test_bounds(self):
         """Whether no bound is above the number of the hypotheses in its set."""
-        with self.assertRaisesRegex(reports.NotAReport, "line 3: it is not a bound of H2"):
-            reports.read_bounds(BOUNDS.replace("bound 0 of H2", "bound 2 of H2"), ["H1", "H2"])
+        with self.assertRaisesRegex(BadAnswer, "line 3: it is not a bound of 'H2'"):
+            read_report("bounds", BOUNDS.replace("bound 0 of H2", "bound 2 of H2"), ["H1", "H2"])
 
     def test_twice(self):
         """Whether no report rejects a hypothesis twice."""
         again = TEST.replace("kept H2", "step 2 H1 p 1/40 weight 1/2\nkept H2")
-        with self.assertRaisesRegex(reports.NotAReport, "line 3: H1 is rejected twice"):
-            reports.read_test(again, ["H1", "H2"])
+        with self.assertRaisesRegex(BadAnswer, "line 3: 'H1' is rejected twice"):
+            read_report("test", again, ["H1", "H2"])
         again = LOOKS.replace("arrive OS 1 1/50\n", "arrive OS 1 1/50\nreject PFS stage 1 weight 1\n")
-        with self.assertRaisesRegex(reports.NotAReport, "line 5: PFS is rejected twice"):
-            reports.read_stages(again, ["PFS", "OS"])
-
-    def test_weights_disagree(self):
-        """Whether there is no picture if the program's weights are not those of the graph that is drawn."""
-        held = findings.Findings(CASE, answering())
-        self.assertEqual(held.states[0].weights, {"H1": Fraction(1, 2), "H2": Fraction(1, 2)})
-        held.run = answering(test=(0, START.replace("kept H2 p 1 weight 1/2", "kept H2 p 1 weight 1/3")))
-        with self.assertRaises(reports.NotAReport):
-            [*held.all_states()]
+        with self.assertRaisesRegex(BadAnswer, "line 5: 'PFS' is rejected twice"):
+            read_report("stages", again, ["PFS", "OS"])
 
     def test_graphs_disagree(self):
-        """Whether there is no page if the program's weights after a rejection are not those of the graph."""
+        """Whether there is no page if the program's weights before or after a rejection are not those of the decision."""
         def run(words, case):
             status, text = answering()(words, case)
-            return status, text.replace("kept H2 p 1 weight 1/2", "kept H2 p 1 weight 1/3") if text == AFTER else text
-        with self.assertRaises(reports.NotAReport):
-            report.page(CASE, run)
+            return status, text.replace("kept H2 p 1 weight 1/2", "kept H2 p 1 weight 1/3") if text == disagreeing else text
+        for disagreeing in (START, AFTER):
+            with self.assertRaises(BadAnswer):
+                page_of(CASE, run)
 
     def test_refusals(self):
         """Whether a refused case has a page with the cause and the cure, and marks the line."""
         bad = CASE.replace("0.025", "2.5% <b>")
-        status, text = report.document(bad, answering(canon=(3, "malformed: line 4: number\n")), file="a b.txt")
+        status, text = document(bad, answering(canon=(3, "malformed: line 4: number\n")), file="a b.txt")
         page = self.check_form(text)
         self.assertEqual(status, 3)
         self.assertEqual([it.text() for it in page.all("mark")], ["p 2.5% <b> 0.026"])
-        self.assertEqual([it.text() for it in page.all("dd")], [
+        self.assertEqual([it.text() for told in page.all("dl") if told.attributes.get("class") != "facts" for it in told.all("dd")][:3], [
             "malformed: line 4: number (status 3 of canon)", "A word is not a numeral.",
             "Write 0.025, 1/40 or 2.5e-2; no percent sign, no decimal comma.",
         ])
         self.assertIn("welungad canon < 'a b.txt'", page.text())
-        status, text = report.document(CASE, answering(test=(5, "too wide: step 3: component 1 weight of H4 mul\n")))
+        status, text = document(CASE, answering(test=(5, "too wide: step 3: component 1 weight of H4 mul\n")))
         self.assertEqual(status, 5)
         self.assertIn("2^127", self.check_form(text).text())
         self.assertIn("python3 tools/make_evidence.py case.txt > evidence.txt\nwelungad check evidence.txt < case.txt\n", read(text).text())
         for status, said in [(3, ""), (3, "malformed: kind"), (-11, ""), (3, "malformed: kind\nmore\n")]:
-            with self.assertRaises(reports.NotAReport):
-                report.page(CASE, answering(canon=(status, said)))
+            with self.assertRaises(BadAnswer):
+                page_of(CASE, answering(canon=(status, said)))
 
     def test_partial_refusals(self):
         """Whether a refusal of one of the other reports is in its section, and the decision stays."""
         wide = "too wide: set H1: component 1 weight of H2 mul\n"
-        page = self.check_form(report.page(CASE, answering(weights=(5, wide), bounds=(5, wide), evidence=(5, wide))))
+        page = self.check_form(page_of(CASE, answering(weights=(5, wide), bounds=(5, wide), evidence=(5, wide))))
         self.assertEqual(len(rows_of(page, "decision")), 3)
         self.assertIsNone(rows_of(page, "sets"))
         self.assertEqual(page.text().count(wide.strip()), 2)
@@ -305,45 +346,47 @@ class Pages(Form):
         """Whether what the user wrote is shown and never taken as markup: comments, labels, the name of the file."""
         case = CASE.replace("two <doses>", "</pre><script>alert(1)</script> & \u00fc")
         run = answering(canon=(0, CANON))
-        text = report.page(case, run, file="<b>.txt", labels=["low <dose> & \"more\"", "high\u00fc"], program=[("<i>", "<u>")])
+        text = page_of(case, run, file="<b>.txt", labels=["low <dose> & \"more\"", "high\u00fc"], program=[("<i>", "<u>")])
         page = self.check_form(text)
-        self.assertIn("# </pre><script>alert(1)</script> & \u00fc\n", next(page.all("pre")).text())
+        self.assertIn("# </pre><script>alert(1)</script> & \u00fc\n", pre_of(page, "given"))
         self.assertEqual(next(page.all("h1")).text(), "The decision on <b>.txt")
-        self.assertEqual([row[0] for row in rows_of(page, "decision")[1:]], ["low <dose> & \"more\" (H1)", "high\u00fc (H2)"])
+        self.assertEqual([row[0] for row in rows_of(page, "decision")[1:]], ["H1: low <dose> & \"more\"", "H2: high\u00fc"])
         self.assertIn("<u>", [it.text() for it in page.all("code")])
         self.assertIn("welungad canon < '<b>.txt'", page.text())
         for labels in (["a"], ["a", "a"], ["a", "b", "c"], []):
             with self.assertRaises(ValueError):
-                report.page(CASE, answering(), labels=labels)
-        broken = report.page(b"# \xff\n" + CASE.encode(), lambda words, given: (0, CANON) if words[0] == "canon" else answering()(words, given))
-        self.assertIn("# \ufffd\n", next(read(broken).all("pre")).text())
+                page_of(CASE, answering(), labels=labels)
+        broken = page_of(b"# \xff\n" + CASE.encode(), lambda words, given: (0, CANON) if words[0] == "canon" else answering()(words, given))
+        self.assertIn("# \ufffd\n", pre_of(read(broken), "given"))
 
     def test_labels_from_right_to_left(self):
         """Whether a label that turns the text beside it, or is of a script from right to left, stands by itself, and another one as it is."""
         turned, hebrew = "\u202eA", "\u05de\u05d9\u05e0\u05d5\u05df"
-        text = report.page(CASE, answering(), labels=[turned, hebrew])
+        text = page_of(CASE, answering(), labels=[turned, hebrew])
         page = self.check_form(text)
-        self.assertEqual([row[0] for row in rows_of(page, "decision")[1:]], [f"{turned} (H1)", f"{hebrew} (H2)"])
+        self.assertEqual([row[0] for row in rows_of(page, "decision")[1:]], [turned, hebrew])
         for label in (turned, hebrew):
             self.assertEqual(text.count(label), text.count(f"<bdi>{label}</bdi>") + text.count(f"\u2068{label}\u2069") + text.count(f">{label}</text>"))
             self.assertGreater(text.count(f"<bdi>{label}</bdi>"), 3)
             self.assertGreater(text.count(f"\u2068{label}\u2069 has the weight"), 0)
-        self.assertNotIn("<bdi>", report.page(CASE, answering(), labels=["high \u00fc", "\u65e5\u672c"]))
+        self.assertNotIn("<bdi>", page_of(CASE, answering(), labels=["high \u00fc", "\u65e5\u672c"]))
 
     def test_long_labels(self):
-        """Whether a picture has the two ends of a long label, the tables and the description have all of it, and no surrogate is left."""
+        """Whether pictures and tables have tags if a label is long, the table of the decision all of it, and no surrogate is left."""
         label = "a label " + 3000 * "<x>" + " that ends \udcff"
-        page = self.check_form(report.page(CASE, answering(), labels=[label, "B"]).encode("utf-8", "replace").decode())
-        self.assertEqual(rows_of(page, "decision")[1][0], label.replace("\udcff", "?") + " (H1)")
+        page = self.check_form(page_of(CASE, answering(), labels=[label, "B"]).encode("utf-8", "replace").decode())
+        self.assertEqual([row[0] for row in rows_of(page, "decision")[1:]], ["H1: " + label.replace("\udcff", "?"), "H2: B"])
+        self.assertEqual([row[0] for row in rows_of(page, "sets")[1:]], ["H1, H2", "H1", "H2"])
         figure = next(page.all("figure"))
-        self.assertIn("a label <x><x>…that ends ?", [it.text() for it in figure.all("text")])
-        self.assertIn(label[:-1] + "? has the weight 1/2", next(figure.all("desc")).text())
+        self.assertIn("H1", [it.text() for it in figure.all("text")])
+        self.assertNotIn("…", text_of_picture(figure))
+        self.assertIn("H1 has the weight 1/2", next(figure.all("desc")).text())
         self.assertLess(max(int(it.attributes["width"]) for it in page.all("svg")), 700)
 
     def test_priority(self):
         """Whether the decision and its evidence are asked for by the priority, and the page has the lines that repeat them."""
         asked = []
-        text = report.page(CASE, lambda words, case: asked.append(words) or answering()(words, case), priority="ratio")
+        text = page_of(CASE, lambda words, case: asked.append(words) or answering()(words, case), priority="ratio")
         self.assertIn(["test", "--priority", "ratio"], asked)
         self.assertIn(["evidence", "--priority", "ratio"], asked)
         page = self.check_form(text)
@@ -352,10 +395,10 @@ class Pages(Form):
 
     def test_the_report_that_is_given(self):
         """Whether there is no page if the program does not print the report that was given."""
-        self.assertEqual(report.page(CASE, answering(), report=TEST), report.page(CASE, answering()))
+        self.assertEqual(page_of(CASE, answering(), report=TEST), page_of(CASE, answering()))
         for given, run in [(TEST.replace("kept H2", "kept H3"), answering()), ("", answering()), (TEST, answering(canon=(4, "limit: bytes 5000000\n")))]:
-            with self.assertRaises(reports.NotAReport):
-                report.page(CASE, run, report=given)
+            with self.assertRaises(BadAnswer):
+                page_of(CASE, run, report=given)
 
     def test_written(self):
         """Whether a file has the whole page, or stays as it was and is alone in its folder."""
@@ -363,26 +406,26 @@ class Pages(Form):
             place, link, pipe = (os.path.join(room, name) for name in ("page.html", "link.html", "pipe"))
             os.symlink(place, link)
             os.mkfifo(pipe)
-            report.write("<p>ü\udcff", link)
+            _files.write_whole("<p>ü\udcff", link)
             self.assertEqual(test_tools.content(place), "<p>ü?")
             os.chmod(place, 0o640)
             with mock.patch("os.replace", side_effect=OSError(28, "No space left on device")), self.assertRaisesRegex(OSError, "page.html can't be written: No space left"):
-                report.write("another", place)
+                _files.write_whole("another", place)
             for path, cause in [(room, "it is not a file"), (pipe, "it is not a file"), (os.path.join(room, "no", "page"), "No such file"),
                                 (os.path.join(place, "page"), "Not a directory"), (os.path.join(room, 300 * "x"), "File name too long")]:
                 with self.subTest(path), self.assertRaisesRegex(OSError, f"^{re.escape(path)} can't be written: {cause}"):
-                    report.write("another", path)
+                    _files.write_whole("another", path)
             self.assertEqual((test_tools.content(place), sorted(os.listdir(room))), ("<p>ü?", ["link.html", "page.html", "pipe"]))
             with mock.patch("os.access", return_value=False), self.assertRaisesRegex(OSError, "it is read-only"):
-                report.write("another", place)
-            report.write("another", place)
+                _files.write_whole("another", place)
+            _files.write_whole("another", place)
             self.assertEqual((test_tools.content(place), os.stat(place).st_mode & 0o777, os.path.islink(link)), ("another", 0o640, True))
 
     def test_numbers(self):
         """Whether a decimal is exact, or marked as not exact."""
         for x, wanted in [("1/40", "= 0.025"), ("1/3", "≈ 0.33333"), ("1/8", "= 0.125"), ("3/2", "= 1.5"), ("1/12345678901", "≈ 8.1e-11"),
                           ("1/200000000", "≈ 5e-09"), ("1/100000000", "= 0.00000001")]:
-            self.assertEqual(report.decimal_text(Fraction(x)), wanted)
+            self.assertEqual(_page.decimal_text(Fraction(x)), wanted)
 
     def test_script(self):
         """Whether the script prints a page with the program's status, or nothing and one line on standard error."""
@@ -391,9 +434,7 @@ class Pages(Form):
             with open(case, "w", encoding="utf-8") as file:
                 file.write(CASE)
             for script, wanted in [("exec cat", 1), ("true", 1), ("echo 'malformed: line 2: number'; exit 3", 3), ("exit 3", 1)]:
-                with open(program, "w", encoding="utf-8") as file:
-                    file.write(f"#!/bin/sh\n{script}\n")
-                os.chmod(program, 0o755)
+                put_program(program, f"#!/bin/sh\n{script}\n")
                 words = [sys.executable, os.path.join(TOOLS, "report.py"), case, "--program", program]
                 done = subprocess.run(words, capture_output=True, text=True, encoding="utf-8")
                 self.assertEqual(done.returncode, wanted, script)
@@ -403,7 +444,8 @@ class Pages(Form):
 
     def test_script_with_options(self):
         """Whether the script takes labels, a title, a report and a file, and writes no file if one of them is wrong."""
-        answers = {command: given for (command, case), given in ANSWERS.items() if case == CANON} | {"start": START, "after": AFTER}
+        answers = {command: given for (command, case), given in ANSWERS.items() if case == CANON}
+        answers |= {"start": START, "after": AFTER, "check": CHECKED}
         script = """#!/bin/sh
 cat > "$0.case"
 echo "$*" >> "$0.words"
@@ -419,7 +461,7 @@ cat "$0.$command"
             for name, content in [*files.items(), *(("program." + command, given) for command, given in answers.items())]:
                 with open(os.path.join(room, name), "w", encoding="utf-8") as file:
                     file.write(content)
-            os.chmod(os.path.join(room, "program"), 0o755)
+            put_program(os.path.join(room, "program"), script)
             words = [sys.executable, os.path.join(TOOLS, "report.py"), "case", "--program=./program", "--out=page.html"]
             for others, cause in [(["--labels=few"], "labels: 2 different ones are needed"), (["--labels=open"], "labels: the last one has no byte 0"),
                                   (["--labels=none"], "labels: 2 different"), (["--labels=no"], "No such file"), (["--report=other"], "decides this case otherwise"),
@@ -431,7 +473,7 @@ cat "$0.$command"
             self.assertEqual((done.returncode, done.stdout, done.stderr), (0, "", ""))
             page = self.check_form(test_tools.content(room, "page.html"))
             self.assertEqual(next(page.all("h1")).text(), "-- <T> ü")
-            self.assertEqual([row[0] for row in rows_of(page, "decision")[1:]], ["low <dose> (H1)", "ü (H2)"])
+            self.assertEqual([row[0] for row in rows_of(page, "decision")[1:]], ["low <dose>", "ü"])
             self.assertNotIn("priority", test_tools.content(room, "program.words"))
             done = subprocess.run([*words, "--priority=ratio"], cwd=room, capture_output=True, text=True, encoding="utf-8")
             self.assertEqual((done.returncode, done.stdout, done.stderr), (0, "", ""))
@@ -443,9 +485,7 @@ cat "$0.$command"
         with tempfile.TemporaryDirectory() as room:
             os.makedirs(os.path.join(room, "path"))
             for name, said in [("path/program", "there"), ("program", "here")]:
-                with open(os.path.join(room, name), "w", encoding="utf-8") as file:
-                    file.write(f"#!/bin/sh\necho 'malformed: {said}'; exit 3\n")
-                os.chmod(os.path.join(room, name), 0o755)
+                put_program(os.path.join(room, name), f"#!/bin/sh\necho 'malformed: {said}'; exit 3\n")
             with open(os.path.join(room, "case"), "w", encoding="utf-8") as file:
                 file.write(CASE)
             words = [sys.executable, os.path.join(TOOLS, "report.py"), "case", "--program=program"]
@@ -459,10 +499,9 @@ cat "$0.$command"
         """Whether a page that cannot be printed is an error with one line."""
         with tempfile.TemporaryDirectory() as room:
             paths = [os.path.join(room, name) for name in ("case", "program")]
-            for path, text in zip(paths, (CASE + 20000 * "# a comment\n", "#!/bin/sh\ncat >/dev/null; echo 'malformed: kind'; exit 3\n")):
-                with open(path, "w", encoding="utf-8") as file:
-                    file.write(text)
-            os.chmod(paths[1], 0o755)
+            with open(paths[0], "w", encoding="utf-8") as file:
+                file.write(CASE + 20000 * "# a comment\n")
+            put_program(paths[1], "#!/bin/sh\ncat >/dev/null; echo 'malformed: kind'; exit 3\n")
             script = [sys.executable, os.path.join(TOOLS, "report.py"), paths[0], f"--program={paths[1]}"]
             for shell, cause in [('exec "$@" >&-', "Bad file descriptor"), ('exec "$@" >/dev/full', "No space left on device"),
                                  ('{ "$@"; echo $? >&2; } | head -c 1 >/dev/null', "Broken pipe")]:
@@ -470,21 +509,6 @@ cat "$0.$command"
                 with self.subTest(cause):
                     self.assertRegex(done.stderr, rf"^report\.py: standard output can't be written: {cause}\n(1\n)?$")
                     self.assertEqual((done.returncode == 1, done.stdout), ("head" not in shell, ""))
-
-    def test_program(self):
-        """Whether the program of the installation or of the checkout that has the script is taken, and only else the one on the path."""
-        with tempfile.TemporaryDirectory() as room:
-            others = [os.path.join(room, name) for name in ("share/welungad/tools", "tools", "a/b/c/tools")]
-            places = [os.path.join(room, name) for name in ("bin/welungad", "crates/welungad/out/welungad", "a/b/c/tools/welungad")]
-            for path in [*others, *map(os.path.dirname, places)]:
-                os.makedirs(path, exist_ok=True)
-            for path in places:
-                with open(path, "w", encoding="utf-8"):
-                    os.chmod(path, 0o755)
-            with mock.patch.dict(os.environ, PATH=others[2]):
-                for here, wanted in [(others[0], places[0]), (others[1], places[1]), (others[2], places[2])]:
-                    with mock.patch.object(report, "HERE", here):
-                        self.assertEqual(os.path.normpath(report.found_program()), wanted)
 
 
 class Refusals(unittest.TestCase):
@@ -495,7 +519,7 @@ class Refusals(unittest.TestCase):
             said = b"".join(row.printed).decode("latin-1").removesuffix("\n")
             if row.status > 1 and row.status != 7 and said and not said.startswith("limit: proof bytes"):
                 count += 1
-                self.assertIsNotNone(refusals.explained(said, row.words[0] if row.words else ""), said)
+                self.assertIsNotNone(_refusals.explained(said, row.words[0] if row.words else ""), said)
         self.assertGreater(count, 200)
 
     def test_causes(self):
@@ -505,12 +529,14 @@ class Refusals(unittest.TestCase):
             ("malformed: row 2 column 3: number", "test", "A word is not a numeral."),
             ("malformed: /p/1: number", "test", "A word is not a numeral."),
             ("malformed: kind", "test", "The case lacks a p-value for each hypothesis."),
-            ("malformed: kind", "stages", "The case has no stages, or, for `study`, has arrivals."),
+            ("malformed: kind", "stages", "The case has no stages."),
+            ("malformed: kind", "study", "The case has no stages, or has arrivals."),
+            ("no: step 2: above level", "check", "The p-value is above the weight that the flows prove, times alpha."),
             ("malformed: case: weight sum component 2", "canon", "The weights sum to more than 1."),
             ("malformed: : shape", "test", "A value is of the wrong kind, a key is missing, or an object has an unknown key."),
         ]:
-            self.assertEqual(refusals.explained(line, command)[0], cause)
-        self.assertIsNone(refusals.explained("no such line", "test"))
+            self.assertEqual(_refusals.explained(line, command)[0], cause)
+        self.assertIsNone(_refusals.explained("no such line", "test"))
 
 
 STAGED = """alpha 1/40
@@ -554,7 +580,7 @@ class Stages(unittest.TestCase):
     def test_page(self):
         """Whether the page of a staged trial has the looks, the levels and the rejections, by hand."""
         given = test_tools.content("examples", "staged-levels.txt")
-        page = read(report.page(given, staged))
+        page = read(page_of(given, staged))
         self.assertEqual(rows_of(page, "decision")[1:], [
             ["PFS", "rejected, step 1, after look 1", "1", "1/500 = 0.002", "3/1000 = 0.003", "1/5 = 0.2", "1/5 = 0.2"],
             ["OS", "rejected, step 2, after look 3", "2", "9/500 = 0.018", "3/160 = 0.01875", "1", "4/5 = 0.8"],
@@ -579,47 +605,52 @@ class Stages(unittest.TestCase):
             ("rejected PFS OS", "rejected OS PFS"), ("rejected PFS OS", "rejected PFS"), ("reject OS stage 2 weight 1\nrejected PFS OS", "rejected PFS"),
             ("reject OS", "reject PFS"), ("reject OS stage 2", "reject OS stage 9"), ("reject OS stage 2", "reject OS stage 0"),
         ]:
-            with self.subTest(new), self.assertRaises(reports.NotAReport):
+            with self.subTest(new), self.assertRaises(BadAnswer):
                 self.assertIn(old, LOOKS)
-                report.page(given, lambda words, case, text=LOOKS.replace(old, new): staged(words, case, text))
-        with self.assertRaises(reports.NotAReport):
-            report.page(given.replace("OS 4/5 0.005", "OS 4/5 0.004"), staged)
+                page_of(given, lambda words, case, text=LOOKS.replace(old, new): staged(words, case, text))
+        with self.assertRaises(BadAnswer):
+            page_of(given.replace("OS 4/5 0.005", "OS 4/5 0.004"), staged)
 
     def test_names_that_look_like_numbers(self):
         """Whether an arrival of the hypothesis 1.0 is not taken for one of the hypothesis 1, and 02 stages are 2."""
-        held = findings.Findings.__new__(findings.Findings)
+        held = Findings.__new__(Findings)
         held.given = "alpha 0.05\nhypotheses 1 1.0\nweights 1/2 1/2\nstages 02\nspend 1 1/2 1/2\nspend 1.0 1 0\narrive 1 1 0.01\n"
-        before, _ = findings.parted(held.given)
-        held.case, held.is_staged = check_evidence.read_case(before), True
-        stages = "stages 2\nspend 1 1/2 1/2\nspend 1.0 1 0\narrive {} 1 1/100\n"
-        held.staging = [line.split() for line in stages.format("1").splitlines()]
-        held.compare_with_given("text", None)
-        held.staging = [line.split() for line in stages.format("1.0").splitlines()]
-        with self.assertRaisesRegex(reports.NotAReport, "^the text of canon is that of another case$"):
-            held.compare_with_given("text", None)
+        text = "alpha 1/20\nhypotheses 1 1.0\nweights 1/2 1/2\nstages 2\nspend 1 1/2 1/2\nspend 1.0 1 0\narrive {} 1 1/100\n"
+        held.is_staged = True
+        for name in ("1", "1.0"):
+            held.case = Canonical(text.format(name))
+            held.staging = held.case.stages
+            if name == "1":
+                held._compare_with_given("text", None)
+        with self.assertRaisesRegex(BadAnswer, "^the text of canon is that of another case$"):
+            held._compare_with_given("text", None)
         held.given = held.given.replace("0.01", "x")
-        with self.assertRaisesRegex(reports.NotAReport, "refuses: the line arrive: number$"):
-            held.compare_with_given("text", None)
+        with self.assertRaisesRegex(BadAnswer, "refuses: the line arrive: number$"):
+            held._compare_with_given("text", None)
 
     def test_levels(self):
         """Whether the level of a stage is that of the case, by fractions and by a table: FORMATS has both for the trial."""
-        held = findings.Findings.__new__(findings.Findings)
-        held.alpha = Fraction(1, 40)
-        held.staging = [line.split() for line in STAGED.split("\n") if line[:5] == "table"]
-        self.assertEqual(held.level("PFS", 1, Fraction(1, 5)), Fraction(3, 1000))
-        self.assertEqual(held.level("OS", 2, Fraction(1)), Fraction(3, 160))
-        self.assertEqual(held.level("OS", 2, Fraction(9, 10)), Fraction(3, 200))
-        self.assertEqual(held.level("OS", 2, Fraction(1, 2)), 0)
-        held.staging = [["spend", "PFS", "3/5", "2/5"], ["spend", "OS", "1/4", "3/4"]]
-        self.assertEqual(held.level("PFS", 1, Fraction(1, 5)), Fraction(3, 1000))
-        self.assertEqual(held.level("OS", 2, Fraction(1)), Fraction(3, 160))
+        case = Canonical(STAGED)
+        self.assertEqual(case.level_of_stage("PFS", 1, Fraction(1, 5)), Fraction(3, 1000))
+        self.assertEqual(case.level_of_stage("OS", 2, Fraction(1)), Fraction(3, 160))
+        self.assertEqual(case.level_of_stage("OS", 2, Fraction(9, 10)), Fraction(3, 200))
+        self.assertEqual(case.level_of_stage("OS", 2, Fraction(1, 2)), 0)
+        case.stages = [["spend", "PFS", "3/5", "2/5"], ["spend", "OS", "1/4", "3/4"]]
+        self.assertEqual(case.level_of_stage("PFS", 1, Fraction(1, 5)), Fraction(3, 1000))
+        self.assertEqual(case.level_of_stage("OS", 2, Fraction(1)), Fraction(3, 160))
 
 
 # ---- pages of random cases against the program
 
 
 def ask(words, case):
-    done = subprocess.run([test_tools.PROGRAM, *words], input=case.encode(), stdout=subprocess.PIPE, check=False)
+    """What the program answers. After `check` comes the evidence itself, in place of its file."""
+    with tempfile.NamedTemporaryFile("w", encoding="utf-8") as file:
+        if words[0] == "check":
+            file.write(words[1])
+            file.flush()
+            words = ["check", file.name]
+        done = subprocess.run([test_tools.PROGRAM, *words], input=case.encode(), stdout=subprocess.PIPE, check=False)
     return done.returncode, done.stdout.decode()
 
 
@@ -654,7 +685,7 @@ class Compared:
 
     def __init__(self, test, canon):
         self.test, self.canon = test, canon
-        self.page = read(report.page(canon, ask))
+        self.page = read(page_of(canon, ask))
         self.names = canon.split("\n")[1].split()[1:]
         self.decided = lines_of(["test"], canon)
         self.alpha = Fraction(self.decided[0][1])
@@ -721,7 +752,7 @@ class Compared:
             weights = re.findall(r"(\S+) has the weight ([0-9/]*[0-9])", next(figure.all("desc")).text())
             self.test.assertEqual({name: Fraction(w) for name, w in weights}, self.sets.get(left, {}))
             texts = [it.text() for it in figure.all("text")]
-            self.test.assertLessEqual({f"p {draw.decimal(Fraction(line[-3]))}" for line in self.decided if line[0] in ("step", "kept")}, {*texts})
+            self.test.assertLessEqual({f"p {_picture.decimal(Fraction(line[-3]))}" for line in self.decided if line[0] in ("step", "kept")}, {*texts})
             for name, number in zip(removed, range(1, n + 1)):
                 self.test.assertIn(str(number), texts)
             self.edge_texts(figure, removed, left)
@@ -789,12 +820,17 @@ class Program(Form):
                     self.assertEqual("No p-value has arrived." in done.stdout, name == "study.txt")
 
     def test_many_hypotheses(self):
-        """Whether a graph of more than 16 hypotheses is drawn once, and one of more than 1,000 edges not at all."""
-        for size, pictures, words in [(17, 1, "Before the first rejection, with the step of each later one"), (33, 0, "A graph of 1056 edges is not drawn.")]:
+        """Whether a graph of more than 16 hypotheses is drawn once, one of more than 30 edges not at all, and of more than 8 hypotheses the
+        pictures between the first and the last are folded and not printed."""
+        once = "Before the first rejection, with the step of each later one"
+        for size, least, pictures, words in [(17, 16, 1, once), (17, 0, 0, "A graph of more than 30 edges is not drawn."),
+                                             (9, 8, 3, "<summary>The 1 pictures between these two, which are not printed</summary>"), (8, 7, 3, "the end")]:
             names = [f"H{i}" for i in range(size)]
-            lines = ["alpha 0.05", "hypotheses " + " ".join(names), "p 0.001" + " 0.9" * (size - 1), "weights" + f" 1/{size}" * size]
-            case = "\n".join([*lines, *(f"edge {a} {b} 1/{size - 1}" for a in names for b in names if a != b), ""])
-            page = report.page(case, ask)
+            lines = ["alpha 0.05", "hypotheses " + " ".join(names), "p 0.001 0.001" + " 0.9" * (size - 2), "weights" + f" 1/{size}" * size]
+            edges = [f"edge {a} {b} 1/{size - 1}" for i, a in enumerate(names) for b in names[i + 1:] + names[:i]]
+            case = "\n".join([*lines, *(edges[:: size - 1][:least] if least else edges), ""])
+            page = page_of(case, ask)
+            self.assertEqual(page.count("<details"), int(size == 9))
             self.check_form(page)
             self.assertIn(words, page)
             self.assertEqual(page.count("<figure>"), pictures)

@@ -15,12 +15,14 @@ from fractions import Fraction
 
 TOOLS = os.path.dirname(os.path.abspath(__file__))
 TOP = os.path.dirname(TOOLS)
-sys.path.append(os.path.join(TOP, "python", "tests"))
+sys.path += [os.path.join(TOP, "python", "tests"), os.path.join(TOP, "python")]
 
 import acceptance_rows  # noqa: E402
 import check_evidence  # noqa: E402
 import closed_test  # noqa: E402
-import draw  # noqa: E402
+from staged_case import staged_case_of  # noqa: E402
+from welungad import _picture  # noqa: E402
+from welungad._case import edge_of, read_canonical  # noqa: E402
 
 PROGRAM = os.path.join(TOP, "crates", "welungad", "out", "welungad")
 SVG = "{http://www.w3.org/2000/svg}"
@@ -90,21 +92,10 @@ class Examples(unittest.TestCase):
         self.assertGreater(len(DECIDED), 14)
         for row in DECIDED:
             with self.subTest(row.file):
-                case = check_evidence.read_case(row.text("case"), "csv" if row.alpha() else "text", row.alpha())
+                case = staged_case_of(row.text("case").encode(), "csv" if row.alpha() else "text", row.alpha() and str(row.alpha()))
                 lines = list(closed_test.report(case))
                 self.assertEqual(lines[0], "alpha " + row.line("alpha")[0])
                 self.assertEqual(lines[1].split()[1:], row.line("rejected"))
-
-    def test_adjusted(self):
-        """Whether each adjusted value is the greatest, over the sets with the hypothesis, of the least p-value over weight."""
-        for row in DECIDED:
-            with self.subTest(row.file):
-                case = check_evidence.read_case(row.text("case"), "csv" if row.alpha() else "text", row.alpha())
-                sets = [weights for weights, _ in closed_test.closed_test(case)]
-                for k, name in enumerate(case.names):
-                    values = [min([Fraction(2), *(case.p[i] / w for i, w in weights.items() if w)]) for weights in sets if k in weights]
-                    wanted = str(max(values)) if max(values) <= 1 else "1 not reached"
-                    self.assertIn(f"adjusted {name} {wanted}", row.blocks["ends"])
 
 
 GATEKEEPING = content("examples", "improved-gatekeeping.txt")
@@ -277,13 +268,14 @@ class Checker(unittest.TestCase):
             path = os.path.join(room, "case")
             with open(path, "w", encoding="utf-8") as file:
                 file.write(SEQUENCE.replace("edge H1 H2 1", "edge H1 H2 " + "(" * 4000 + "1" + ")" * 4000))
-            for words in (["check_evidence.py", path, path], ["closed_test.py", path], ["draw.py", path]):
+            for words in (["check_evidence.py", path, path], ["closed_test.py", path]):
                 done = subprocess.run([sys.executable, os.path.join(TOOLS, words[0]), *words[1:]], capture_output=True, text=True)
                 self.assertEqual((done.returncode, done.stdout + done.stderr), (4, "limit: line 6: depth\n"), words)
 
     def test_first_faults(self):
         """Whether a fault of the form of an expression comes before a divisor that is not a number, wherever it is."""
-        for text, wanted in [("1/0+", "expression"), ("1/0*(1", "expression"), ("1/\\epsilon/0", "divisor"), ("1/0/\\epsilon", "zero divisor")]:
+        for text, wanted in [("1/0+", "expression"), ("1/0*(1", "expression"), ("1/\\epsilon/0", "divisor"), ("1/0/\\epsilon", "zero divisor"),
+                             (".", "expression"), ("1/.", "expression")]:
             with self.subTest(text), self.assertRaises(check_evidence.Stop) as stop:
                 check_evidence.expression(text, "malformed: line 1")
             self.assertEqual(stop.exception.args, (3, f"malformed: line 1: {wanted}\n"))
@@ -358,8 +350,7 @@ class Checker(unittest.TestCase):
             for path, text in zip(paths, (SEQUENCE, case, proof)):
                 with open(path, "w", encoding="utf-8") as file:
                     file.write(text)
-            for words, wanted in [(["check_evidence.py", paths[0], paths[2]], "yes\nlisted H1\n"), (["closed_test.py", paths[1], "--sets"], f"H2=1/{one}"),
-                                  (["draw.py", paths[1]], ">≈0</text>")]:
+            for words, wanted in [(["check_evidence.py", paths[0], paths[2]], "yes\nlisted H1\n"), (["closed_test.py", paths[1], "--sets"], f"H2=1/{one}")]:
                 done = subprocess.run([sys.executable, os.path.join(TOOLS, words[0]), *words[1:]], capture_output=True, text=True, encoding="utf-8")
                 self.assertEqual((done.returncode, wanted in done.stdout), (0, True), done.stderr[-200:])
 
@@ -386,9 +377,10 @@ class Checker(unittest.TestCase):
                 self.assertEqual((done.returncode, done.stdout), wanted, done.stderr)
 
     def test_length(self):
-        """Whether the two scripts for reviewers are short."""
+        """Whether the scripts for reviewers are short."""
         self.assertLessEqual(content("tools", "check_evidence.py").count("\n"), 410)
-        self.assertLessEqual(content("tools", "closed_test.py").count("\n"), 120)
+        self.assertLessEqual(content("tools", "closed_test.py").count("\n"), 210)
+        self.assertLessEqual(content("tools", "staged_case.py").count("\n"), 160)
         self.assertLessEqual(content("tools", "make_evidence.py").count("\n"), 250)
 
 
@@ -474,12 +466,22 @@ class Sixteen(unittest.TestCase):
         return digest
 
 
+def drawn(text, **how):
+    """The picture of a canonical text."""
+    case = read_canonical(text)
+    return _picture.picture_of(_picture.Drawn(case.names, case.alpha, case.p, case.components), **how)
+
+
+needs_program = unittest.skipUnless(os.access(PROGRAM, os.X_OK), "the program isn't built")
+
+
 class Pictures(unittest.TestCase):
     def picture(self, *words):
         done = subprocess.run([sys.executable, os.path.join(TOOLS, "draw.py"), *words], capture_output=True, text=True, encoding="utf-8")
         self.assertEqual(done.returncode, 0, done.stderr)
         return done.stdout
 
+    @needs_program
     def test_examples(self):
         """Whether each example is drawn: a circle for each hypothesis and an arrow for each edge, all within the picture."""
         for row in {row.file: row for row in ROWS if row.file.endswith((".txt", ".csv"))}.values():
@@ -498,6 +500,7 @@ class Pictures(unittest.TestCase):
                     x, y = (float(shape.get(name) or shape.get("c" + name)) for name in "xy")
                     self.assertTrue(left <= x <= left + width and top <= y <= top + height, shape.attrib)
 
+    @needs_program
     def test_report(self):
         """Whether what a report rejects is marked, with its step; the picture of the README is such a one."""
         row = next(row for row in ROWS if row.file == "holm.txt")
@@ -510,6 +513,7 @@ class Pictures(unittest.TestCase):
         texts = [text.text for text in xml.etree.ElementTree.fromstring(drawn).iter(SVG + "text")]
         self.assertLessEqual({"H1", "H2", "H3", "1", "2", "3", "1/3", "level α = 0.025"}, set(texts))
 
+    @needs_program
     def test_other_reports(self):
         """Whether a text that is not the report of test on the case is refused by one line, and nothing is drawn."""
         report = next(row for row in ROWS if row.file == "holm.txt").text("ends")
@@ -518,7 +522,8 @@ class Pictures(unittest.TestCase):
         changes = [
             ("alpha 1/40\n", ""), ("alpha 1/40", "alpha 1/20"), ("end\n", ""), ("H3 p", "H4 p"), ("p 1/50", "p 1/40"), ("step 3 H3 p 1/50 weight 1\n", ""),
             ("rejected H1 H2 H3", "rejected H1 H2"), ("adjusted H3 1/50\n", ""), (report, five), (report, ""), (report, content("examples", "holm.txt")),
-            (report, "too wide: step 3: component 1 weight of H4 mul\n"), (report, "malformed: kind\n"),
+            (report, "too wide: step 3: component 1 weight of H4 mul\n"), (report, "malformed: kind\n"), ("weight 1/3", "weight 1/4"),
+            ("adjusted H1 1/50", "adjusted H1 1/400"),
         ]
         with tempfile.TemporaryDirectory() as room:
             path = os.path.join(room, "report")
@@ -534,8 +539,8 @@ class Pictures(unittest.TestCase):
         """Whether arrows that are bowed around circles stay within the picture: each of sixteen hypotheses passes to each other."""
         names = [f"H{i}" for i in range(16)]
         lines = ["alpha 1", "hypotheses " + " ".join(names), "weights" + " 1/16" * 16]
-        case = check_evidence.read_case("\n".join([*lines, *(f"edge {a} {b} 1/15" for a in names for b in names if a != b), ""]))
-        root = xml.etree.ElementTree.fromstring(draw.picture(case))
+        text = "\n".join([*lines, *(f"edge {a} {b} 1/15" for a in names for b in names if a != b), ""])
+        root = xml.etree.ElementTree.fromstring(drawn(text))
         left, top, width, height = map(float, root.get("viewBox").split())
         for path in root.iter(SVG + "path"):
             if "marker-end" in path.attrib:
@@ -545,8 +550,8 @@ class Pictures(unittest.TestCase):
 
     def test_inline(self):
         """Whether a picture in a page names and describes itself, and keeps its names apart from those of others."""
-        case = check_evidence.read_case(SEQUENCE)
-        root = xml.etree.ElementTree.fromstring(draw.picture(case, prefix="one-", title="A <graph>", description="H1 & others"))
+        case = "alpha 1/40\nhypotheses H1 H2\nweights 1 0\nedge H1 H2 1\n"
+        root = xml.etree.ElementTree.fromstring(drawn(case, prefix="one-", title="A <graph>", description="H1 & others"))
         self.assertEqual((root.get("role"), root.get("aria-labelledby")), ("img", "one-title one-desc"))
         texts = {it.get("id"): it.text for it in [*root.iter(SVG + "title"), *root.iter(SVG + "desc")]}
         self.assertEqual(texts, {"one-title": "A <graph>", "one-desc": "H1 & others"})
@@ -555,9 +560,24 @@ class Pictures(unittest.TestCase):
 
     def test_edge_text(self):
         """Whether an edge is written as a reader expects it."""
-        for text, wanted in [("1-\\epsilon", "1−ε"), ("(1-\\epsilon)/2", "1/2−1/2·ε"), ("\\epsilon^2", "ε²"), ("0.5", "1/2"),
-                             ("1-12345678901\\epsilon", "1−≈1.235e+10·ε"), ("1-1e400\\epsilon", "1−≈10^400·ε"), ("1/3-12e300\\epsilon^2", "1/3−≈10^301·ε²")]:
-            self.assertEqual(draw.edge_text(check_evidence.expression(text, "")), wanted)
+        for text, wanted in [("1-\\epsilon", "1−ε"), ("1/2-1/2*\\epsilon", "1/2−1/2·ε"), ("\\epsilon^2", "ε²"), ("1/2", "1/2"),
+                             ("1-12345678901*\\epsilon", "1−≈1.235e+10·ε"), (f"1-1{400 * '0'}*\\epsilon", "1−≈10^400·ε"),
+                             (f"1/3-12{300 * '0'}*\\epsilon^2", "1/3−≈10^301·ε²")]:
+            self.assertEqual(_picture.number_text(edge_of(text)), wanted)
+
+    def test_labels(self):
+        """Whether two labels that differ only at their ends look different in a picture, and no label is shortened."""
+        labels = [f"Change from baseline in HbA1c at week 26, semaglutide {dose} mg vs placebo" for dose in (5, 10)]
+        case = read_canonical("alpha 1/40\nhypotheses H1 H2\nweights 1/2 1/2\nedge H1 H2 1\n")
+        for own, tags in [(labels, False), ([f"{label}, {80 * 'x'}" for label in labels], True), ([labels[0] + "y" * 40, "H1"], True)]:
+            components = [part.renamed(dict(zip(case.names, own))) for part in case.components]
+            text = _picture.picture_of(_picture.Drawn(own, case.alpha, None, components))
+            texts = [it.text for it in xml.etree.ElementTree.fromstring(text).iter(SVG + "text")]
+            self.assertNotIn("…", "".join(texts))
+            shown = "".join(texts).replace("\u00a0", "").replace(" ", "")
+            for label in own:
+                self.assertIn(label.replace(" ", ""), shown)
+            self.assertEqual(("H1" in texts, "A1" in texts), (tags, own[1] == "H1"))
 
 
 class Readers(unittest.TestCase):
@@ -573,6 +593,25 @@ class Readers(unittest.TestCase):
                 script = [sys.executable, os.path.join(TOOLS, words[0]), *words[1:]]
                 done = subprocess.run(["sh", "-c", '"$@" | head -c 1', "sh", *script], capture_output=True)
                 self.assertEqual((len(done.stdout), done.stderr), (1, b""), words)
+
+
+    def test_without_the_signal(self):
+        """Whether each script runs where there is no SIGPIPE, as on Windows, and where Python leaves the folder of a script out of its
+        path."""
+        case = os.path.join(TOP, "examples", "holm.txt")
+        with tempfile.TemporaryDirectory() as room:
+            with open(os.path.join(room, "sitecustomize.py"), "w", encoding="utf-8") as file:
+                file.write("import signal\ndel signal.SIGPIPE\n")
+            evidence = os.path.join(room, "evidence.txt")
+            scripts = [["make_evidence.py", case], ["check_evidence.py", case, evidence], ["closed_test.py", case]]
+            scripts += [["draw.py", case], ["report.py", case]] if os.access(PROGRAM, os.X_OK) else []
+            for words in scripts:
+                done = subprocess.run([sys.executable, os.path.join(TOOLS, words[0]), *words[1:]], capture_output=True, text=True, encoding="utf-8",
+                                      cwd=room, env={**os.environ, "PYTHONPATH": room, "PYTHONSAFEPATH": "1"})
+                self.assertEqual((done.returncode, done.stderr), (0, ""), words)
+                if words[0] == "make_evidence.py":
+                    with open(evidence, "w", encoding="ascii") as file:
+                        file.write(done.stdout)
 
 
 class Manual(unittest.TestCase):
@@ -598,7 +637,7 @@ class Manual(unittest.TestCase):
 class Program(unittest.TestCase):
     def test_agreement(self):
         """Whether the program and the checkers agree on some cases. bench/checkers.py compares many."""
-        words = "--documents 200 --damaged 200 --closed 60 --own 0 --seed 7 --jobs 2".split()
+        words = "--documents 200 --damaged 200 --closed 60 --staged 60 --own 0 --seed 7 --jobs 2".split()
         done = subprocess.run([sys.executable, os.path.join(TOP, "bench", "checkers.py"), *words], capture_output=True, text=True)
         self.assertEqual((done.returncode, done.stderr), (0, ""), done.stdout)
         self.assertIn("\n0 disagreements\n", done.stdout)

@@ -1,0 +1,147 @@
+"""Tests of check_page.py. The pages are those of test_report.py, whose reports are by hand; bench/pages.py makes many with the program."""
+import os
+import re
+import subprocess
+import sys
+import tempfile
+import unittest
+
+TOOLS = os.path.dirname(os.path.abspath(__file__))
+TOP = os.path.dirname(TOOLS)
+sys.path.insert(0, TOOLS)
+
+import check_page  # noqa: E402
+import test_tools  # noqa: E402
+from test_report import ANSWERS, CANON, CASE, answering, document, page_of  # noqa: E402
+from welungad import _page  # noqa: E402
+
+PROGRAM = [("SHA-256 digest of the program", "ab" * 32), ("What it was built from", "sha256 welungad " + "ab" * 32)]
+EVIDENCE = ANSWERS["evidence", CANON]
+
+# What is altered on the page of two hypotheses, what it becomes, and what the answer names.
+ALTERED = [
+    ("rejects <strong>H1</strong>", "rejects <strong>H1 and H2</strong>", "the headline"),
+    ("It does not reject H2.", "", "the headline"),
+    ("At the level 1/20", "At the level 1/10", "the headline"),
+    ("<td>not rejected</td>", "<td>rejected, step 2</td>", "the section hypotheses: table decision, row 2"),
+    ('13/250 <span class="decimal">= 0.052', '13/250 <span class="decimal">= 0.042', "the section hypotheses: table decision, row 2"),
+    ("weight times the level", "weight plus the level", "the section method"),
+    ("is at most the level if the p-values are valid", "is at most the level", "the section method"),
+    ("<td>nothing</td>", "<td>1 to H2</td>", "the section graph: table graph-1, row 1"),
+    ('font-weight="normal">1/2</text>', 'font-weight="normal">1/3</text>', "the section graph: the picture 'Before the first rejection'"),
+    ("H1 has the weight 1/2.", "H1 has the weight 1/3.", "the section graph"),
+    ("<strong>1/2</strong>", "1/2", "the section intersections: table sets, row 1"),
+    ("<td>1</td></tr>", "<td>2</td></tr>", "the section intersections: table sets, row 1"),
+    ("listed H1\nkept H2", "listed H1 H2\nkept", "the section evidence: table checks, row 1"),
+    ("was made by the proved call", "was made by make_evidence.py", "the section evidence"),
+    ("p 0.025 0.026", "p 0.025 0.027", "the section given"),
+    ("adjusted H2 13/250\nend\n</pre>\n<h2", "adjusted H2 1/500\nend\n</pre>\n<h2", "the section report: line 6"),
+    ("step 1 H1 p 1/40 weight 1/2", "step 1 H2 p 13/500 weight 1/2", "step 1 of the report is H2"),
+    ("welungad test &lt; case.txt &gt; report.txt", "welungad bounds &lt; case.txt &gt; report.txt", "the section program"),
+    ("ab" * 32 + "</code></dd><dt>What", "cd" * 32 + "</code></dd><dt>What", "the section program"),
+    ("of release 0.2.0.", "of release 0.2.1.", "the section program"),
+    ("This page does not show", "This page does show", "the end"),
+    ('<li><a href="#false">How many hypotheses are false</a></li>', "", "the contents"),
+    ("case, SHA-256", "SHA-256", "the sheets"),
+]
+
+
+class Pages(unittest.TestCase):
+    def setUp(self):
+        self.page = page_of(CASE, answering(), file="two.txt", program=PROGRAM)
+
+    def test_yes(self):
+        """Whether the answer on a page is yes, with what is rejected and what was not checked, and with the evidence whose digest it has."""
+        wanted = ("yes\nrejected H1\nnot checked: the title, the labels and the lines to fill in\nnot checked: the program and what it was built from\n"
+                  "end\n")
+        self.assertEqual(check_page.answer(self.page), (0, wanted))
+        self.assertEqual(check_page.answer(self.page, EVIDENCE.encode()), (0, wanted))
+        for how in ({"labels": ["high <dose>", "a dose that is low: 5 mg or less"]}, {"labels": ["\u05de\u05d9\u05e0\u05d5\u05df", "\u202eA"]},
+                    {"title": "</style> \"T\" \\ <b>"}, {"program": ()}, {"file": "a b's.txt"}):
+            with self.subTest(how):
+                self.assertEqual(check_page.answer(page_of(CASE, answering(), **how))[0], 0)
+        self.assertEqual(check_page.answer(page_of(CANON, answering()))[0], 0)
+
+    def test_no(self):
+        """Whether the answer on an altered page is no, and names the place."""
+        for old, new, place in ALTERED:
+            with self.subTest(old, new=new):
+                self.assertIn(old, self.page)
+                status, text = check_page.answer(self.page.replace(old, new, 1))
+                self.assertEqual((status, text[:4]), (1, "no:\n"))
+                self.assertIn(place, text)
+
+    def test_digests(self):
+        """Whether one digit of each digest on the page counts."""
+        found = [it.start() for it in re.finditer(r"\b[0-9a-f]{64}\b", self.page)]
+        self.assertEqual(len(found), 1 + 2 + 2 + len(check_page.SCRIPTS))
+        for at in found:
+            changed = self.page[:at] + ("1" if self.page[at] == "0" else "0") + self.page[at + 1:]
+            self.assertEqual(check_page.answer(changed)[0], 1, self.page[at - 60 : at + 64])
+
+    def test_rows(self):
+        """Whether each row of each table counts: without it, and twice."""
+        rows = [*re.finditer(r'<tr(?: class="rejected")?><th scope="row">.*?</tr>\n?', self.page, re.DOTALL)]
+        self.assertGreater(len(rows), 15)
+        for row in rows:
+            for text in ("", row[0] * 2):
+                self.assertEqual(check_page.answer(self.page[: row.start()] + text + self.page[row.end():])[0], 1, row[0])
+
+    def test_what_is_not_said(self):
+        """Whether the answer stays yes if an alteration changes nothing of what is said: a remark, another numeral of the same value, the
+        title, a line to fill in."""
+        for old, new in [("# two", "# three"), ("0.05\nhypotheses", "5e-2\nhypotheses"), ("<h1>The decision on", "<h1>A decision on"),
+                         ('<dt>Author</dt><dd><span class="blank"></span>', "<dt>Author</dt><dd>A &amp; B")]:
+            self.assertIn(old, self.page)
+            self.assertEqual(check_page.answer(self.page.replace(old, new, 1))[0], 0, new)
+
+    def test_other_evidence(self):
+        """Whether a document that is no evidence, or has another digest than the page, is refused."""
+        for document_, words in [("evidence 1\nstep H1\nend\n", "the section evidence"), (EVIDENCE.replace("exit 1 H1 0", "exit 1 H1 2"), "the evidence: no: keep H2"),
+                                 ("evidence 3\n", "the evidence: malformed: proof line 1: version")]:
+            status, text = check_page.answer(self.page, document_.encode())
+            self.assertEqual(status, 1)
+            self.assertIn(words, text)
+
+    def test_refused_cases(self):
+        """Whether the page of a refused case is compared with the refusal of the scripts."""
+        bad = CASE.replace("0.025", "2.5%")
+        page = document(bad, answering(canon=(3, "malformed: line 4: number\n")))[1]
+        self.assertEqual(check_page.answer(page), (0, "yes\nrefused malformed: line 4: number\nnot checked: the title, the cause and the cure\nend\n"))
+        page = document(CASE, answering(canon=(3, "malformed: line 4: number\n")))[1]
+        self.assertEqual(check_page.answer(page)[0], 1)
+        page = document(CASE, answering(test=(5, "too wide: step 3: component 1 weight of H4 mul\n")))[1]
+        self.assertEqual(check_page.answer(page)[0], 2)
+
+    def test_script(self):
+        """Whether the script reads files, and ends with 2 if one is not a page."""
+        with tempfile.TemporaryDirectory() as room:
+            paths = [os.path.join(room, name) for name in ("page", "evidence", "none")]
+            for path, text in zip(paths, (self.page, EVIDENCE, "<html><p>text</p></html>")):
+                with open(path, "w", encoding="utf-8") as file:
+                    file.write(text)
+            for words, status, line in [(paths[:2], 0, "yes"), (paths[:1], 0, "yes"), (paths[2:], 2, "not a page of a decision: it has no main part"),
+                                        (paths[1:2], 2, "not a page of a decision: it has no main part")]:
+                done = subprocess.run([sys.executable, os.path.join(TOOLS, "check_page.py"), *words], capture_output=True, text=True, encoding="utf-8",
+                                      env={**os.environ, "PYTHONSAFEPATH": "1"})
+                self.assertEqual((done.returncode, done.stdout.split("\n")[0], done.stderr), (status, line, ""))
+
+    def test_apart(self):
+        """Whether the script shares nothing with what makes pages: it imports Python's own modules and the reviewers' scripts alone."""
+        self.assertEqual({check_page.RELEASE, _page.RELEASE}, {test_tools.content("VERSION").strip()})
+        for name in check_page.SCRIPTS:
+            text = test_tools.content("tools", f"{name}.py")
+            found = {it.split(".")[0] for it in re.findall(r"(?m)^(?:from|import) ([A-Za-z_.]+)", text)}
+            self.assertLessEqual(found, {*check_page.SCRIPTS, *getattr(sys, "stdlib_module_names", found)})
+
+    @unittest.skipUnless(os.access(test_tools.PROGRAM, os.X_OK), "the program isn't built")
+    def test_random_pages(self):
+        """Whether the answers on a few pages of random cases, and on altered ones, are right. bench/pages.py tries many."""
+        words = "--pages 12 --altered 10 --seed 7 --jobs 1".split()
+        done = subprocess.run([sys.executable, os.path.join(TOP, "bench", "pages.py"), *words], capture_output=True, text=True)
+        self.assertEqual((done.returncode, done.stderr), (0, ""), done.stdout)
+        self.assertIn("\n0 wrong\n", done.stdout)
+
+
+if __name__ == "__main__":
+    unittest.main()
