@@ -5,14 +5,29 @@
 # - with status 8 and nothing, if `main` has no memory for its words or its file;
 # - as the case ends with all the memory that it requests.
 # Prints how often each came, and each run that ends otherwise. Its status is 1 if there is one, and if a case has no allocation to
-# refuse. Stops a case after 2,000 runs or ten minutes. Needs glibc and cc, and a program that takes its memory from glibc.
+# refuse. Stops a case after 2,000 allocations or ten minutes, with --short after 30 allocations or six seconds. Needs glibc and cc, and a
+# program that takes its memory from glibc; ends with 77 and a line if cc or the program is missing.
 #
-#     bench/allocations.sh [PROGRAM]
+#     bench/allocations.sh [--short] [PROGRAM]
 #
 # (`rt try --fail-alloc N -- test` does one such run with every access checked, but builds the program anew for each N.)
 set -eu
 here=$(dirname -- "$(readlink -f -- "$0")")
+most=2000
+seconds=600
+if [ "${1-}" = --short ]; then
+    most=30
+    seconds=6
+    shift
+fi
 program=${1:-$here/../crates/welungad/out/welungad}
+missing=
+command -v cc >/dev/null || missing=cc
+[ -x "$program" ] || missing="${missing:+$missing, }the built program"
+if [ -n "$missing" ]; then
+    echo "bench/allocations.sh: skipped, since this is missing: $missing"
+    exit 77
+fi
 examples=$here/../examples
 out=$here/out
 mkdir -p "$out"
@@ -58,6 +73,7 @@ END
 grep -v '^arrive ' "$out/looks.txt" >"$out/open.txt"
 echo '{"alpha":"0.025","hypotheses":["H1"],"p":["0.01"],"components":[{"weights":[1],"edges":[]}]}' >"$out/one.json"
 ended=0
+runs=0
 
 # one run: its number, `one` or `on`, the file and the words; the status follows the text
 ran() {
@@ -107,7 +123,7 @@ tried() {
     begun=$(date +%s)
     for kind in one on; do
         own=0 memory=0 silent=0 other=0 number=1
-        while [ "$number" -le "$count" ] && [ "$number" -le 2000 ] && [ $(($(date +%s) - begun)) -lt 600 ]; do
+        while [ "$number" -le "$count" ] && [ "$number" -le "$most" ] && [ $(($(date +%s) - begun)) -lt "$seconds" ]; do
             ran "$number" "$kind" "$file" "$@"
             case $(kind_of) in
             own) own=$((own + 1)) ;;
@@ -122,6 +138,7 @@ tried() {
             esac
             number=$((number + 1))
         done
+        runs=$((runs + number - 1))
         printf '%-12s %-4s %6d %6d %10d %7d %6d\n' "$name" "$kind" "$count" "$own" "$memory" "$silent" "$other"
     done
 }
@@ -141,4 +158,5 @@ tried weights "$examples/holm.txt" weights
 tried simes "$examples/gatekeeping.txt" simes
 tried stages "$out/looks.txt" stages
 tried study "$out/open.txt" study "$out/study.txt"
+echo "$runs runs"
 exit $ended

@@ -8,7 +8,8 @@
 # Each number is the least of five rounds, elapsed. A second table has the seconds of 100,000 trials of three and of sixteen hypotheses:
 # by graph_test_many, and by graph_test and plain R a trial, which are measured on 5,000 of the trials and multiplied by 20. The
 # package `welungad` has to be installed with the C library; without it the numbers that need it are NA. The gate requires none
-# of these figures.
+# of these figures. A third table has the seconds of all intersections of sixteen hypotheses (graph_test_closure, graph_simes and
+# graph_weights), and of the graphs of a decision of 64 (graph_steps): on Holm's graph, and on one whose numbers are all different.
 library(welungad)
 
 program <- commandArgs(TRUE)
@@ -144,4 +145,39 @@ if ("library" %in% ways) {
   names(table) <- c("hypotheses", "graph_test_many", "graph_test", "plain R, loops", "plain R, matrices")
   cat("seconds for 100,000 trials\n")
   print(format(table, digits = 3), row.names = FALSE)
+}
+
+# ---- all intersections, and graphs after rejections
+
+# A graph whose weights and edges are different fractions.
+different <- function(n) {
+  set.seed(n)
+  edges <- matrix(sample(1:99, n * n, replace = TRUE), n)
+  diag(edges) <- 0
+  weights <- sample(1:99, n)
+  graph_create(as_exact(gmp::as.bigq(weights, sum(weights))), matrix(paste0(edges, "/", rowSums(edges)), n))
+}
+
+# The least of three rounds, in seconds.
+quickest <- function(call) min(replicate(3, seconds(call)))
+
+set_row <- function(name, make) {
+  graph <- make(16)
+  p <- round(seq(0.0001, 0.0003, length.out = 16), 6)
+  wide <- tryCatch(graph_test(make(64), round(seq(0.0001, 0.0003, length.out = 64), 6)), welungad_refusal = function(refusal) NULL)
+  data.frame(
+    graph = name,
+    closure = quickest(function() graph_test_closure(graph, p)),
+    simes = quickest(function() graph_simes(graph, p)),
+    weights = quickest(function() graph_weights(graph)),
+    steps = if (is.null(wide)) NA else quickest(function() graph_steps(wide))
+  )
+}
+
+for (way in ways) {
+  options(welungad.way = way)
+  table <- rbind(set_row("Holm", graph_holm), set_row("different", different))
+  names(table) <- c("graph", "graph_test_closure", "graph_simes", "graph_weights", "graph_steps of 64")
+  cat("seconds for all intersections of 16, and for graphs of 64, by the ", way, "\n", sep = "")
+  print(format(table, digits = 2), row.names = FALSE)
 }

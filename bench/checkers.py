@@ -1,11 +1,13 @@
 #!/usr/bin/env python3
 """Compares the program with tools/check_evidence.py and tools/closed_test.py on cases that it makes from a seed.
 
-    bench/checkers.py [--documents N] [--damaged N] [--closed N] [--own N] [--seed S] [--jobs J] [--program PATH]
+    bench/checkers.py [--documents N] [--damaged N] [--closed N] [--staged N] [--own N] [--seed S] [--jobs J] [--program PATH]
 
 Documents: the program makes evidence for a case, and both check it; of each fourth document the keeps are cut off, which makes
 it one of version 1. Damaged: both check such a document after a change of it or of its case. Closed: both decide a case, and
-give the weights of all sets. A third of the cases have epsilon, some have several components, some are sheets or JSON.
+give the weights of all sets, the adjusted p-values and the bounds of all sets. A third of the cases have epsilon, some have
+several components, some are sheets or JSON. Staged: both decide a case with stages after each arrival; some of these cases are
+damaged, and then both have to refuse it with the same line.
 
 Own: tools/make_evidence.py makes evidence for a case on which the program makes some, with the program's report and without it.
 Both documents are checked by both, the second one also after a change.
@@ -29,8 +31,9 @@ from fractions import Fraction
 HERE = os.path.dirname(os.path.abspath(__file__))
 sys.path.insert(0, os.path.join(HERE, "..", "tools"))
 import make_evidence  # noqa: E402
-from check_evidence import WIDEST, Stop, answer, case_of  # noqa: E402
-from closed_test import closed_test  # noqa: E402
+import closed_test  # noqa: E402
+from check_evidence import WIDEST, Stop, answer  # noqa: E402
+from staged_case import staged_case_of  # noqa: E402
 
 PROGRAM = os.path.join(HERE, "..", "crates", "welungad", "out", "welungad")
 NUMBERS = ["0", "1", "2", "1/2", "-1/2", "1/3", "501/1000", "1/1000000007", "[1]/[2,-1]", "[0,1]/[1]", "[1,-1]/[2]", "[0,1]/[0,2]",
@@ -113,6 +116,69 @@ class Made:
 
     def bytes(self):
         return {"csv": self.sheet, "json": self.json, "text": self.text}[self.form]().encode()
+
+
+class Staged(Made):
+    """A case with stages. Those of a damaged one break a rule of stages, or a line of them is not allowed."""
+
+    def __init__(self, rng, number):
+        super().__init__(rng, number, 5)
+        self.form = rng.choice(["json", "text", "text"])
+        self.count = rng.randrange(1, 4)
+        self.spends = [self.fractions(rng) if rng.random() < 0.6 else self.steps(rng) for _ in self.names]
+        looks = [(k, t) for k in range(self.size) for t in range(1, self.count + 1)]
+        looks = rng.sample(looks, rng.randrange(0, len(looks) + 1))
+        self.arrivals = [(k, t, Fraction(rng.choice([0, 1, 2, 5, 10, 20, 40, 200]), 1000)) for k, t in looks]
+        if rng.random() < 0.1:
+            self.damage(rng)
+
+    def fractions(self, rng):
+        return [(None, shares(rng, self.count))]
+
+    def steps(self, rng):
+        """Returns one or two steps, whose levels do not fall from one to the next."""
+        alpha, first = Fraction(self.alpha), rng.choice([Fraction(1, 12), Fraction(1, 4), Fraction(1, 2)])
+        low = [first * alpha * part for part in shares(rng, self.count)]
+        steps = [(first, low), (first * 2, [x * rng.choice([1, 2]) for x in low])]
+        return steps[: rng.choice([1, 2])]
+
+    def damage(self, rng):
+        kind, k = rng.randrange(7), rng.randrange(self.size)
+        least, numbers = self.spends[k][0]
+        if kind == 0:
+            self.arrivals.append((k, rng.choice([0, self.count + 1]), Fraction(1, 2)))
+        elif kind == 1:
+            self.arrivals += [(k, 1, Fraction(1, 9)), (k, 1, Fraction(1, 8))]
+        elif kind == 2:
+            self.arrivals = [(k, 1, rng.choice([Fraction(2), Fraction(-1, 9)]))]
+        elif kind == 3:
+            numbers.append(Fraction(0))
+        elif kind == 4:
+            numbers[0] = rng.choice([Fraction(-1, 100), Fraction(101, 100)])
+        elif kind == 5 and least is not None:
+            self.spends[k].append((rng.choice([least, Fraction(0), Fraction(3, 2)]), [*numbers]))
+        else:
+            self.count = 0
+
+    def text(self):
+        lines = [line for line in super().text().split("\n")[:-1] if line[:2] != "p "] + [f"stages {self.count}"]
+        for name, steps in zip(self.names, self.spends):
+            for least, numbers in steps:
+                lines.append(" ".join([f"spend {name}" if least is None else f"table {name} {least}", *map(str, numbers)]))
+        lines += [f"arrive {self.names[k]} {t} {p}" for k, t, p in self.arrivals]
+        return "\n".join(lines) + "\n"
+
+    def json(self):
+        def spend(steps):
+            if steps[0][0] is None:
+                return [*map(str, steps[0][1])]
+            return {"steps": [{"from": str(least), "levels": [*map(str, numbers)]} for least, numbers in steps]}
+
+        value = json.loads(super().json())
+        del value["p"]
+        arrivals = [{"hypothesis": self.names[k], "stage": t, "p": str(p)} for k, t, p in self.arrivals]
+        value["stages"] = {"count": self.count, "spend": [*map(spend, self.spends)], "arrivals": arrivals}
+        return json.dumps(value)
 
 
 # ---- damage
@@ -245,21 +311,64 @@ def own_one(task):
 
 
 def decide_one(task):
-    """Compares the decision on the case of a number, and the weights of its sets."""
+    """Compares the decision on the case of a number, the weights and bounds of its sets, and the adjusted p-values."""
     seed, number, _, _ = task
     rng = random.Random(f"{seed}/closed/{number}")
     made = Made(rng, number, 6)
-    status, decision = run(["test", *made.words()], made.bytes())
-    all_status, weights = run(["weights", *made.words()], made.bytes())
-    if status or all_status:
-        return [(f"closed: the program ends with {status} and {all_status}", None)]
-    case = case_of(made.bytes(), made.form, made.alpha if made.form == "csv" else None)
-    tested = list(closed_test(case))
-    rejected = [name for k, name in enumerate(case.names) if all(by is not None for weights, by in tested if k in weights)]
-    sets = [" ".join(["set", *(f"{case.names[k]}={w}" for k, w in row.items())]) for row, _ in tested]
-    if f"\n{' '.join(['rejected', *rejected])}\n" in decision and weights == "\n".join([f"weights {made.size}", *sets, "end", ""]):
-        return [(f"closed: same decision and weights, {'some' if rejected else 'none'} rejected", None)]
-    return [("closed: DISAGREE", f"{made.bytes().decode()}{decision}{weights}{rejected} {sets}")]
+    printed = {word: run([word, *made.words()], made.bytes()) for word in ("test", "weights", "bounds")}
+    if any(status for status, _ in printed.values()):
+        return [(f"closed: the program ends with {' and '.join(str(status) for status, _ in printed.values())}", None)]
+    case = staged_case_of(made.bytes(), made.form, made.alpha if made.form == "csv" else None)
+    lines = [*closed_test.report(case, True, True, True)]
+
+    def ours(word):
+        return [line for line in lines if line.split(" ")[0] == word]
+
+    def compare_lines(what, theirs, wanted, kind):
+        if theirs == wanted:
+            return f"{what}: the same, {kind}", None
+        return f"{what}: DISAGREE", f"{made.bytes().decode()}program {theirs}\nclosed test {wanted}"
+
+    decision, weights, bounds = (text.split("\n") for _, text in printed.values())
+    sets = [re.sub(" (not rejected|rejected by .*)$", "", line) for line in ours("set")]
+    [rejected] = ours("rejected")
+    return [
+        compare_lines("closed", [*weights, *(line for line in decision if line.split(" ")[0] == "rejected")],
+                      [f"weights {made.size}", *sets, "end", "", rejected], "some rejected" if " " in rejected else "none rejected"),
+        compare_lines("adjusted", [line for line in decision if line.split(" ")[0] == "adjusted"], ours("adjusted"),
+                      "some not reached" if any("not" in line for line in ours("adjusted")) else "all reached"),
+        compare_lines("bounds", bounds, [f"bounds {made.size}", *ours("bound"), "end", ""],
+                      "some above 0" if any(line.split(" ")[1] != "0" for line in ours("bound")) else "all 0"),
+    ]
+
+
+def stage_one(task):
+    """Compares the decisions after each arrival of the case with stages of a number, or how it is refused."""
+    seed, number, _, _ = task
+    made = Staged(random.Random(f"{seed}/staged/{number}"), number)
+    status, text = run(["stages", *made.words()], made.bytes())
+    if status in (4, 5):
+        return [(f"staged: the program ends with {status}", None)]
+    try:
+        lines = [*closed_test.report(staged_case_of(made.bytes(), made.form))]
+    except Stop as stop:
+        if stop.args == (status, text):
+            return [("staged: both refuse it", None)]
+        return [("staged: DISAGREE", f"{made.bytes().decode()}program {status} {text}closed test {stop.args}")]
+    rejected, wanted = [], []
+    for line in text.split("\n"):
+        words = line.split(" ")
+        if words[0] == "arrive":
+            wanted.append(line)
+        elif words[0] == "reject":
+            rejected.append(words[1])
+        if words[0] in ("arrive", "reject"):
+            named = " ".join(name for name in made.names if name in rejected)
+            wanted[-1] = wanted[-1].split(" rejected")[0] + " rejected" + (" " + named if named else "")
+    wanted.append(f"rejected{''.join(' ' + name for name in made.names if name in rejected)}")
+    if status or [line for line in lines if line.split(" ")[0] in ("arrive", "rejected")] != wanted:
+        return [("staged: DISAGREE", f"{made.bytes().decode()}{text}{lines}")]
+    return [(f"staged: the same, {'some' if rejected else 'none'} rejected", None), *[("looks: the same", None)] * len(made.arrivals)]
 
 
 def safely(task):
@@ -285,7 +394,7 @@ def count(pool, tasks, counts):
 def main():
     global PROGRAM
     parser = argparse.ArgumentParser(description=__doc__, formatter_class=argparse.RawDescriptionHelpFormatter)
-    defaults = (("documents", 20000), ("damaged", 20000), ("closed", 5000), ("own", 5000), ("seed", 1), ("jobs", os.cpu_count()))
+    defaults = (("documents", 20000), ("damaged", 20000), ("closed", 5000), ("staged", 5000), ("own", 5000), ("seed", 1), ("jobs", os.cpu_count()))
     for name, default in defaults:
         parser.add_argument(f"--{name}", type=int, default=default)
     parser.add_argument("--program", default=PROGRAM)
@@ -304,6 +413,7 @@ def main():
             wrong += count(pool, tasks, counts)
             done += len(tasks)
         wrong += count(pool, [(decide_one, words.seed, n, room, False) for n in range(words.closed)], counts)
+        wrong += count(pool, [(stage_one, words.seed, n, room, False) for n in range(words.staged)], counts)
         done = 0
         while (missing := words.own - total("own document")) > 0:
             wrong += count(pool, [(own_one, words.seed, n, room, False) for n in range(done, done + missing)], counts)

@@ -3,7 +3,7 @@
 
 usage: bench/quotes.py
 
-The pages are READING, DEFINITIONS and WORKED of docs/. Each line of a block between two lines ``` must be a line of one of the files
+The pages are READING and DEFINITIONS of docs/. Each line of a block between two lines ``` must be a line of one of the files
 that the paragraphs above the block, up to the block before, link to. Ends with status 1 if one isn't, and prints how many lines are
 quoted.
 """
@@ -12,7 +12,7 @@ import re
 import sys
 
 TOP = os.path.dirname(os.path.dirname(os.path.abspath(__file__)))
-PAGES = ["READING.md", "DEFINITIONS.md", "WORKED.md"]
+PAGES = ["READING.md", "DEFINITIONS.md"]
 
 
 def content(path):

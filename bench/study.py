@@ -12,7 +12,7 @@ Compares the program with statuses, texts and files that were written by hand:
 - a run that is killed.
 
 Then it times the opening of a file with all 768 looks of 64 hypotheses at 12 stages, unless --untimed is given. More than S
-seconds (1 by default) is a finding. Prints each finding, and ends with status 1 if there is one.
+seconds (1 by default) is a finding. Prints each finding, and ends with status 1 if there is one. Without a program it ends with 77.
 """
 import argparse
 import os
@@ -26,7 +26,7 @@ import time
 
 HERE = os.path.dirname(os.path.abspath(__file__))
 PROGRAM = os.path.join(HERE, "..", "crates", "welungad", "out", "welungad")
-FINDINGS = []
+FINDINGS, COMPARED = [], [0]
 TABLE = """CREATE TABLE IF NOT EXISTS looks (place INTEGER PRIMARY KEY, hypothesis INTEGER NOT NULL, stage INTEGER NOT NULL,
 p TEXT NOT NULL, UNIQUE (hypothesis, stage))"""
 STORE = ["--store", "looks.db"]
@@ -88,6 +88,7 @@ def study(commands, *words, case=TWO):
 
 
 def hold(what, got, wanted):
+    COMPARED[0] += 1
     if got != wanted:
         found(f"{what}: {repr(got)[:400]} for {repr(wanted)[:400]}")
 
@@ -375,6 +376,9 @@ def main():
     words.add_argument("--untimed", action="store_true")
     given = words.parse_args()
     PROGRAM = os.path.abspath(given.program)
+    if not os.access(PROGRAM, os.X_OK):
+        print("bench/study.py: skipped, since this is missing: the built program")
+        sys.exit(77)
     with tempfile.TemporaryDirectory() as folder:
         os.chdir(folder)
         for part in (hold_runs, hold_file_alone, hold_json, hold_no_file, hold_files, hold_locks, hold_rows, hold_hundred, hold_killed):
@@ -382,7 +386,7 @@ def main():
         if not given.untimed:
             hold_speed(given.seconds)
         os.chdir(HERE)
-    print(f"{len(FINDINGS)} findings")
+    print(f"{COMPARED[0]} comparisons, {len(FINDINGS)} findings")
     sys.exit(1 if FINDINGS else 0)
 
 

@@ -265,8 +265,13 @@ def functions_of(crate, file, text, traits, wanted):
             yield Function(crate, file, name, body, f"Err({value})" if "-> Result<" in result else value)
 
 
+def texts_in(top):
+    """Returns the crate and the text of each file."""
+    return {file: (crate, open(f"{top}/{file}", encoding="utf-8").read()) for crate, file in sources(top)}
+
+
 def found_in(top):
-    texts = {file: (crate, open(f"{top}/{file}", encoding="utf-8").read()) for crate, file in sources(top)}
+    texts = texts_in(top)
     wanted, traits = dict(OTHERS), set()
     for crate, text in texts.values():
         for enum in re.finditer(r"(?m)^pub enum (\w+)[^{]*\{", text):
@@ -288,9 +293,11 @@ def found_in(top):
 
 
 class Copy:
-    def __init__(self, room):
+    """A copy of the repository whose functions have switches: those that are given, or those that can return out-of-memory."""
+
+    def __init__(self, room, found=None):
         self.room, self.top, self.state, self.lock = room, f"{room}/repository", 0, threading.Lock()
-        self.functions, self.texts = found_in(TOP)
+        self.functions, self.texts = found or found_in(TOP)
         self.uses = {}
         for line in open(f"{TOP}/crates.txt", encoding="utf-8"):
             name, _, rest = line.partition("#")[0].partition(":")
