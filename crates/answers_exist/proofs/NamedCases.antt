@@ -11,7 +11,7 @@ use Rattle.case_model.specs.declared.fault.CaseFault.{CaseFault}
 use Rattle.case_model.specs.declared.inputs.Inputs.TheVariants.{Single}
 use Rattle.catalogue.specs.declared.fault.CatalogueFault.{CatalogueFault}
 use Rattle.catalogue.specs.declared.fault.CatalogueFault.TheVariants.{Size, Seed, NoMemory}
-use Rattle.catalogue.specs.Makings.{made_unless, made, behind, seed_fault, holm_case, sequence_case, fallback_case, parallel_case, improved_case, sample_case}
+use Rattle.catalogue.specs.Makings.{made_unless, made, unless, seed_fault, holm_case, sequence_case, fallback_case, parallel_case, improved_case, sample_case}
 use Rattle.catalogue.specs.Quotients.{quotient}
 use Rattle.catalogue.specs.Samples.{sample_graph, sample_p_values}
 use Rattle.catalogue.specs.Sizes.{size_fault, sizes_fault}
@@ -31,7 +31,7 @@ IsPlain r = ¬ (r ≡ Err NoMemory)
 abbrev IsPlainFault : Option CatalogueFault → Type 0
 IsPlainFault o = ¬ (o ≡ Some NoMemory)
 
-behind_plain : (o : Option CatalogueFault) (r : Result Content CatalogueFault) → IsPlainFault o → IsPlain r → IsPlain (behind o r)
+behind_plain : (o : Option CatalogueFault) (r : Result Content CatalogueFault) → IsPlainFault o → IsPlain r → IsPlain (unless o r)
 behind_plain None r f h = h
 behind_plain (Some fault) r f h = λ e. f (cc)
 
@@ -93,7 +93,7 @@ sample_plain n seed = behind_plain (size_fault n) _ (size_plain n) (behind_plain
 
 -- ---- samples
 
-behind_ok : (o : Option CatalogueFault) (r : Result Content CatalogueFault) (c : Content) → behind o r ≡ Ok c → (o ≡ None) × (r ≡ Ok c)
+behind_ok : (o : Option CatalogueFault) (r : Result Content CatalogueFault) (c : Content) → unless o r ≡ Ok c → (o ≡ None) × (r ≡ Ok c)
 behind_ok None r c e = (refl, e)
 behind_ok (Some fault) r c e = absurd (cc e)
 

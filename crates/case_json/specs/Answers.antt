@@ -10,7 +10,7 @@ use Rattle.serde_json.specs.View.{view}
 use Rattle.serde_json.specs.declared.value.Value.{Value}
 use Rattle.case_json.specs.declared.fault.JsonFault.{JsonFault}
 use Rattle.case_json.specs.declared.fault.JsonFault.TheVariants as faults
-use Rattle.case_json.specs.Values.{item_list, is_object_of, behind, under}
+use Rattle.case_json.specs.Values.{item_list, is_object_of, prefixed, under}
 
 -- the result is this answer, or the error for no memory
 abbrev pub IsAnswer : {A : Type 0} → Result A JsonFault → Result A JsonFault → Type 0
@@ -36,7 +36,7 @@ with_keys keys value = known_by (is_object_of keys value)
 
 -- what a reader returns for the part at a key; the path of its fault begins with the key, and so does that of a missing part
 abbrev pub part_at : {A : Type 0} → List ℕ → Reader A → Option Data → Result A JsonFault
-part_at key read None = Err (faults.Shape (behind key []))
+part_at key read None = Err (faults.Shape (prefixed key []))
 part_at key read (Some part) = told_as (under key) (read part)
 
 abbrev pub at : {A : Type 0} → List ℕ → Reader A → Reader A

@@ -22,24 +22,24 @@ unfoldable pub made : Draft → Result Content CatalogueFault
 made d = made_unless d (case_fault d)
 
 -- the given fault, of a size or of the seed, or else what is made
-abbrev pub behind : Option CatalogueFault → Result Content CatalogueFault → Result Content CatalogueFault
-behind (Some fault) r = Err fault
-behind None r = r
+abbrev pub unless : Option CatalogueFault → Result Content CatalogueFault → Result Content CatalogueFault
+unless (Some fault) r = Err fault
+unless None r = r
 
 unfoldable pub holm_case : ℕ → Ratio → List Ratio → Result Content CatalogueFault
-holm_case n alpha ps = behind (size_fault n) (made (draft_of (holm_graph n) alpha ps))
+holm_case n alpha ps = unless (size_fault n) (made (draft_of (holm_graph n) alpha ps))
 
 unfoldable pub sequence_case : ℕ → Ratio → List Ratio → Result Content CatalogueFault
-sequence_case n alpha ps = behind (size_fault n) (made (draft_of (sequence_graph n) alpha ps))
+sequence_case n alpha ps = unless (size_fault n) (made (draft_of (sequence_graph n) alpha ps))
 
 unfoldable pub fallback_case : List Ratio → Ratio → List Ratio → Result Content CatalogueFault
-fallback_case ws alpha ps = behind (size_fault (length ws)) (made (draft_of (fallback_graph ws) alpha ps))
+fallback_case ws alpha ps = unless (size_fault (length ws)) (made (draft_of (fallback_graph ws) alpha ps))
 
 unfoldable pub parallel_case : ℕ → ℕ → Ratio → List Ratio → Result Content CatalogueFault
-parallel_case a b alpha ps = behind (sizes_fault a b) (made (draft_of (parallel_graph a b) alpha ps))
+parallel_case a b alpha ps = unless (sizes_fault a b) (made (draft_of (parallel_graph a b) alpha ps))
 
 unfoldable pub improved_case : ℕ → ℕ → Ratio → List Ratio → Result Content CatalogueFault
-improved_case a b alpha ps = behind (sizes_fault a b) (made (draft_of (improved_graph a b) alpha ps))
+improved_case a b alpha ps = unless (sizes_fault a b) (made (draft_of (improved_graph a b) alpha ps))
 
 -- a seed is 2^48 or more
 unfoldable pub seed_fault : ℕ → Option CatalogueFault
@@ -47,4 +47,4 @@ seed_fault seed = if nat_lt seed (2 ^ 48) then None else Some (Seed seed)
 
 -- the sample of a size and a seed, at level 1/20
 unfoldable pub sample_case : ℕ → ℕ → Result Content CatalogueFault
-sample_case n seed = behind (size_fault n) (behind (seed_fault seed) (made (draft_of (sample_graph n seed) (quotient (pos 1) 20) (sample_p_values n seed))))
+sample_case n seed = unless (size_fault n) (unless (seed_fault seed) (made (draft_of (sample_graph n seed) (quotient (pos 1) 20) (sample_p_values n seed))))

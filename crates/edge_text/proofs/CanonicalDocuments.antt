@@ -22,7 +22,7 @@ use Rattle.case_model.specs.Content.{Content, is_alone}
 use Rattle.case_model.specs.Validity.{Each}
 use Rattle.case_model.proofs.Holding.{both}
 use Rattle.text_lines.specs.Forms.{Leaf, Say, Line, Then, May, Many, texts_seen}
-use Rattle.text_lines.specs.Kinds.{behind, more_lines, each_of}
+use Rattle.text_lines.specs.Kinds.{keyed_line, more_lines, each_of}
 use Rattle.text_lines.specs.Lines.{Row, rows_of, end_of, texts_in}
 use Rattle.text_lines.specs.Spelling.{line_spelt, IsWord, IsLine}
 use Rattle.text_lines.proofs.FormReads.{reading_as}
@@ -80,7 +80,7 @@ module _ (names : List (List ℕ)) (words : Each names IsWord) (apart : AreDisti
   block_are false k h = (share_line k.share, (weights_line k.weights, edges_lines names words apart 0 k.edges (omega (arith, h.size))))
 
   abbrev share_kind : Leaf (List ℕ) LineKind Ratio
-  share_kind = behind (codes "component") number
+  share_kind = keyed_line (codes "component") number
 
   -- the number of a share is said
   share_said : (x : Ratio) → IsSaid x → share_kind (line_spelt (share_words x)) ≡ Some (Ok x)
@@ -92,8 +92,8 @@ module _ (names : List (List ℕ)) (words : Each names IsWord) (apart : AreDisti
   block_said k after h o =
       let weights = map number_word k.weights in
       let edges = map line_spelt (table_lines names 0 k.edges) in
-      spells_then (Line (behind (codes "weights") numbers)) _ (line_spelt (weights_words k.weights) ∷ []) edges k.weights (untabled m k) after
-      (spells_line (behind (codes "weights") numbers) (line_spelt (weights_words k.weights)) k.weights (edges ++ after)
+      spells_then (Line (keyed_line (codes "weights") numbers)) _ (line_spelt (weights_words k.weights) ∷ []) edges k.weights (untabled m k) after
+      (spells_line (keyed_line (codes "weights") numbers) (line_spelt (weights_words k.weights)) k.weights (edges ++ after)
       (line_says (codes "weights") weights numbers k.weights (weights_line k.weights) (numbers_said weights k.weights (zip_map _ number_word k.weights h.weights))))
       (spells_last (more_lines (edge_line names) []) (λ es. record { share = k.share; weights = k.weights; edges = es }) edges (edges_from m 0 k.edges) after
       (spells_lines (edge_line names) [] edges (edges_from m 0 k.edges) after (edges_said names words apart 0 k.edges (omega (arith, h.size)) h.entries) o))
@@ -179,12 +179,12 @@ module _ (names : List (List ℕ)) (words : Each names IsWord) (apart : AreDisti
 
   -- blocks begin with no p-values
   pub blocks_other : (ks : List Component) (after : List (List ℕ)) → 0 < length ks
-      → Other (behind (codes "p") given) (map line_spelt (blocks_lines names ks) ++ after)
+      → Other (keyed_line (codes "p") given) (map line_spelt (blocks_lines names ks) ++ after)
   unfolding blocks_lines block_lines
   blocks_other [] after some = absurd (omega arith)
   blocks_other (k ∷ ks) after some = by_test (is_alone (k ∷ ks))
     where
-      by_test : (b : Bool) → Other (behind (codes "p") given) (map line_spelt (flat_map (block_lines names b) (k ∷ ks)) ++ after)
+      by_test : (b : Bool) → Other (keyed_line (codes "p") given) (map line_spelt (flat_map (block_lines names b) (k ∷ ks)) ++ after)
       by_test true = line_apart (codes "weights") (map number_word k.weights) (codes "p") given (weights_line k.weights) refl
       by_test false = line_apart (codes "component") (number_word k.share ∷ []) (codes "p") given (share_line k.share) refl
 
@@ -205,10 +205,10 @@ module _ (names : List (List ℕ)) (words : Each names IsWord) (apart : AreDisti
       let spends = map line_spelt (spends_lines names s.spend) in
       let arrivals = map line_spelt (map (arrive_words names) s.arrivals) in
       let line = line_spelt (stages_words s.count) in
-      let arrive = behind (codes "arrive") (arrival names) in
+      let arrive = keyed_line (codes "arrive") (arrival names) in
       let said : Option DraftStages = Some (record { count = s.count; spend = s.spend; arrivals = s.arrivals }) in
       subst (λ ls. Spells (stages names) (line ∷ ls) said []) (sym (map-append line_spelt (spends_lines names s.spend) (map (arrive_words names) s.arrivals)))
-      (spells_may (behind (codes "stages") count) _ (Say None) line (spends ++ arrivals) s.count said []
+      (spells_may (keyed_line (codes "stages") count) _ (Say None) line (spends ++ arrivals) s.count said []
       (line_says (codes "stages") (decimal s.count ∷ []) count s.count (count_line s.count h.count)
       (count_said (decimal s.count ∷ []) s.count (record { word = decimal s.count; alone = refl; is = whole_is s.count h.count })))
       (spells_then (each_of spend names) _ spends arrivals s.spend said []
@@ -240,7 +240,7 @@ late_are names w a (Single ps) h = tt
 late_are names w a (Staged s) h = stages_are names w a s h
 
 no_stages_said : (names : List (List ℕ)) → Spells (stages names) [] None []
-no_stages_said names = spells_other (behind (codes "stages") count) _ (Say None) [] None [] tt (spells_say None [])
+no_stages_said names = spells_other (keyed_line (codes "stages") count) _ (Say None) [] None [] tt (spells_say None [])
 
 seen_texts : (rows : List Row) → lines_in (texts_seen rows) ≡ texts_in rows
 seen_texts [] = refl
@@ -254,7 +254,7 @@ late_said names w a (Staged s) h = stages_said names w a s h
 
 -- stages begin with another line than blocks
 late_other : {A : Type 0} (names : List (List ℕ)) (keyword : List ℕ) (says : List ℕ → Words → Result A LineKind) (i : Inputs) → AreInputsSaid names i
-    → bytes_eq (codes "stages") keyword ≡ false → Other (λ line. behind keyword (says line) line) (map line_spelt (late_lines names i))
+    → bytes_eq (codes "stages") keyword ≡ false → Other (λ line. keyed_line keyword (says line) line) (map line_spelt (late_lines names i))
 unfolding stages_lines
 late_other names keyword says Bare h n = tt
 late_other names keyword says (Single ps) h n = tt
@@ -305,34 +305,34 @@ module _ (c : Content) (h : IsContentSaid c) where
       (spells_last (stages c.names) (λ s. record { names = c.names; alpha = c.alpha; p = p_of c.inputs; components = components; stages = s }) late (stages_in c.inputs) []
       (late_said c.names h.words h.apart c.inputs h.inputs)))
 
-  p_other : Other (behind (codes "p") given) (body ++ [])
-  p_other = subst (Other (behind (codes "p") given)) (sym (append-nil body))
-      (subst (Other (behind (codes "p") given)) (sym (map-append line_spelt (blocks_lines c.names c.components) (late_lines c.names c.inputs)))
+  p_other : Other (keyed_line (codes "p") given) (body ++ [])
+  p_other = subst (Other (keyed_line (codes "p") given)) (sym (append-nil body))
+      (subst (Other (keyed_line (codes "p") given)) (sym (map-append line_spelt (blocks_lines c.names c.components) (late_lines c.names c.inputs)))
       (blocks_other c.names h.words h.apart c.components late h.some))
 
   abbrev p_form : Lines Draft
-  p_form = May (behind (codes "p") given) (after_p c.alpha c.names) (after_p c.alpha c.names [])
+  p_form = May (keyed_line (codes "p") given) (after_p c.alpha c.names) (after_p c.alpha c.names [])
 
   p_said : (i : Inputs) → AreInputsSaid c.names i → Spells (after_p c.alpha c.names (p_of i)) body (draft_of c) []
       → Spells p_form (map line_spelt (p_lines i) ++ body) (draft_of c) []
-  p_said Bare k s = spells_other (behind (codes "p") given) (after_p c.alpha c.names) (after_p c.alpha c.names []) body (draft_of c) [] p_other s
+  p_said Bare k s = spells_other (keyed_line (codes "p") given) (after_p c.alpha c.names) (after_p c.alpha c.names []) body (draft_of c) [] p_other s
   p_said (Single ps) k s =
       let words = map number_word ps in
-      spells_may (behind (codes "p") given) (after_p c.alpha c.names) (after_p c.alpha c.names []) (line_spelt (p_words ps)) body (map Some ps) (draft_of c) []
+      spells_may (keyed_line (codes "p") given) (after_p c.alpha c.names) (after_p c.alpha c.names []) (line_spelt (p_words ps)) body (map Some ps) (draft_of c) []
       (line_says (codes "p") words given (map Some ps) (p_line ps)
       (given_said words (map Some ps) (ps, record { each = zip_map _ number_word ps k.1; some = k.0 }, refl))) s
-  p_said (Staged t) k s = spells_other (behind (codes "p") given) (after_p c.alpha c.names) (after_p c.alpha c.names []) body (draft_of c) [] p_other s
+  p_said (Staged t) k s = spells_other (keyed_line (codes "p") given) (after_p c.alpha c.names) (after_p c.alpha c.names []) body (draft_of c) [] p_other s
 
   document_said : Spells document (map line_spelt (canonical_lines c)) (draft_of c) []
   unfolding canonical_lines
   document_said =
       let rest = map line_spelt (p_lines c.inputs ++ (blocks_lines c.names c.components ++ late_lines c.names c.inputs)) in
-      spells_then (Line (behind (codes "alpha") number)) _ (line_spelt (alpha_words c.alpha) ∷ []) (line_spelt (names_words c.names) ∷ rest) c.alpha (draft_of c) []
-      (spells_line (behind (codes "alpha") number) (line_spelt (alpha_words c.alpha)) c.alpha ((line_spelt (names_words c.names) ∷ rest) ++ [])
+      spells_then (Line (keyed_line (codes "alpha") number)) _ (line_spelt (alpha_words c.alpha) ∷ []) (line_spelt (names_words c.names) ∷ rest) c.alpha (draft_of c) []
+      (spells_line (keyed_line (codes "alpha") number) (line_spelt (alpha_words c.alpha)) c.alpha ((line_spelt (names_words c.names) ∷ rest) ++ [])
       (line_says (codes "alpha") (number_word c.alpha ∷ []) number c.alpha alpha_line
       (number_said (number_word c.alpha ∷ []) c.alpha (record { numeral = number_word c.alpha; alone = refl; says = h.alpha }))))
-      (spells_then (Line (behind (codes "hypotheses") (λ words. Ok words))) _ (line_spelt (names_words c.names) ∷ []) rest c.names (draft_of c) []
-      (spells_line (behind (codes "hypotheses") (λ words. Ok words)) (line_spelt (names_words c.names)) c.names (rest ++ [])
+      (spells_then (Line (keyed_line (codes "hypotheses") (λ words. Ok words))) _ (line_spelt (names_words c.names) ∷ []) rest c.names (draft_of c) []
+      (spells_line (keyed_line (codes "hypotheses") (λ words. Ok words)) (line_spelt (names_words c.names)) c.names (rest ++ [])
       (line_says (codes "hypotheses") c.names (λ words. Ok words) c.names names_line refl))
       (subst (λ ls. Spells p_form ls (draft_of c) []) (sym (map-append line_spelt (p_lines c.inputs) (blocks_lines c.names c.components ++ late_lines c.names c.inputs)))
       (p_said c.inputs h.inputs after_said)))

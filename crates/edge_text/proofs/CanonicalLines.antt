@@ -17,12 +17,12 @@ use Rattle.case_model.specs.Validity.{Each, EachTwo}
 use Rattle.case_model.specs.Entries.{is_zero_entry}
 use Rattle.text_lines.specs.Spelling.{line_spelt, text_of, IsWord, IsLine, numbered}
 use Rattle.text_lines.specs.Lines.{rows_of, texts_in}
-use Rattle.text_lines.specs.Words.{words_behind, behind_words}
+use Rattle.text_lines.specs.Words.{words_after, after_words}
 use Rattle.text_lines.proofs.Spelt.{words_of_line, rows_of_text, behind_spelt, behind_blank}
 use Rattle.edge_expression.specs.EntryReading.{IsEntryText}
 use Rattle.edge_expression.specs.EntryTexts.{entry_text}
 use Rattle.edge_expression.proofs.EntriesReadBack.{entry_reads_back}
-use Rattle.text_lines.specs.Kinds.{behind}
+use Rattle.text_lines.specs.Kinds.{keyed_line}
 use Rattle.edge_text.specs.declared.fault.LineKind.{LineKind}
 use Rattle.edge_text.specs.Document.{edge_line}
 use Rattle.edge_text.specs.Grammar.{Words}
@@ -44,16 +44,16 @@ keyed b bs words e h w = (no_comment, high_word (b ∷ bs) (omega arith) h, w)
 
 -- it says what its words say
 pub line_says : {A : Type 0} (keyword : List ℕ) (words : Words) (says : Words → Result A LineKind) (x : A) → IsLine (keyword ∷ words) → says words ≡ Ok x
-    → behind keyword says (line_spelt (keyword ∷ words)) ≡ Some (Ok x)
+    → keyed_line keyword says (line_spelt (keyword ∷ words)) ≡ Some (Ok x)
 line_says keyword words says x h e =
     let same : bytes_eq keyword keyword ≡ true = same_name keyword in
-    ap (λ ws. option_map says (words_behind keyword ws)) (words_of_line (keyword ∷ words) (h.1, h.2)) ∙ rw same (ap Some e)
+    ap (λ ws. option_map says (words_after keyword ws)) (words_of_line (keyword ∷ words) (h.1, h.2)) ∙ rw same (ap Some e)
 
 -- it is of no other kind
 pub line_apart : {A : Type 0} (keyword : List ℕ) (words : Words) (other : List ℕ) (says : Words → Result A LineKind) → IsLine (keyword ∷ words)
-    → bytes_eq keyword other ≡ false → behind other says (line_spelt (keyword ∷ words)) ≡ None
+    → bytes_eq keyword other ≡ false → keyed_line other says (line_spelt (keyword ∷ words)) ≡ None
 line_apart keyword words other says h n =
-    ap (λ ws. option_map says (words_behind other ws)) (words_of_line (keyword ∷ words) (h.1, h.2)) ∙ rw n refl
+    ap (λ ws. option_map says (words_after other ws)) (words_of_line (keyword ∷ words) (h.1, h.2)) ∙ rw n refl
 
 pub all_append : {A : Type 0} (P : A → Type 0) (xs ys : List A) → AllByRecursion P xs → AllByRecursion P ys → AllByRecursion P (xs ++ ys)
 all_append P [] ys h k = k
@@ -120,10 +120,10 @@ name_word names i h l = h i (name_at names i) (slice_get-get_or names i [] l)
 
 -- ---- edges
 
-behind_three : (a b c t : List ℕ) → IsWord a → IsWord b → IsWord c → behind_words 3 (line_spelt (a ∷ b ∷ c ∷ t ∷ [])) ≡ 32 ∷ (t ++ [])
+behind_three : (a b c t : List ℕ) → IsWord a → IsWord b → IsWord c → after_words 3 (line_spelt (a ∷ b ∷ c ∷ t ∷ [])) ≡ 32 ∷ (t ++ [])
 behind_three a b c t ha hb hc =
-    ap (behind_words 2) (behind_spelt 32 a (b ++ 32 ∷ (c ++ 32 ∷ (t ++ []))) refl ha)
-    ∙ ap (behind_words 1) (behind_blank 32 (b ++ 32 ∷ (c ++ 32 ∷ (t ++ []))) refl ∙ behind_spelt 32 b (c ++ 32 ∷ (t ++ [])) refl hb)
+    ap (after_words 2) (behind_spelt 32 a (b ++ 32 ∷ (c ++ 32 ∷ (t ++ []))) refl ha)
+    ∙ ap (after_words 1) (behind_blank 32 (b ++ 32 ∷ (c ++ 32 ∷ (t ++ []))) refl ∙ behind_spelt 32 b (c ++ 32 ∷ (t ++ [])) refl hb)
     ∙ behind_blank 32 (c ++ 32 ∷ (t ++ [])) refl ∙ behind_spelt 32 c (t ++ []) refl hc
 
 edge_word : IsWord (codes "edge")
@@ -146,7 +146,7 @@ module _ (names : List (List ℕ)) (words : Each names IsWord) (apart : AreDisti
       let b = name_at names j in
       let line = line_spelt (edge_words names i j e) in
       let w : Words = a ∷ b ∷ entry_text e ∷ [] in
-      let says : IsEntryText (behind_words 3 line) e =
+      let says : IsEntryText (after_words 3 line) e =
       subst (λ t. IsEntryText t e) (sym (behind_three (codes "edge") a b (entry_text e) edge_word (name_word names i words hi)
       (name_word names j words hj) ∙ ap (λ t. 32 ∷ t) (append-nil (entry_text e))))
       (blank_entry (entry_text e) e (entry_reads_back e h.five h.short)) in

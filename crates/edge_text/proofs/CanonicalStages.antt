@@ -12,9 +12,9 @@ use Rattle.case_model.specs.declared.spend.Spend.TheVariants.{Shares, Table}
 use Rattle.case_model.specs.declared.spend_step.SpendStep.{SpendStep}
 use Rattle.case_model.specs.Validity.{Each}
 use Rattle.text_lines.specs.Forms.{Say, Line, Then}
-use Rattle.text_lines.specs.Kinds.{behind, more_lines, each_after}
+use Rattle.text_lines.specs.Kinds.{keyed_line, more_lines, each_after}
 use Rattle.text_lines.specs.Spelling.{line_spelt, IsWord, IsLine}
-use Rattle.text_lines.specs.Words.{words_behind}
+use Rattle.text_lines.specs.Words.{words_after}
 use Rattle.text_lines.proofs.Spelt.{words_of_line}
 use Rattle.edge_text.specs.Document.{if_named, if_step, further_line, table, spend}
 use Rattle.edge_text.specs.Grammar.{Words}
@@ -62,7 +62,7 @@ steps_said name [] h s = tt
 steps_said name (t ∷ ts) h s =
     let w = s 0 t refl in
     let l = table_line name t h in (
-      ap (λ ws. if_step name (words_behind (codes "table") ws)) (words_of_line (table_words name t) (l.1, l.2))
+      ap (λ ws. if_step name (words_after (codes "table") ws)) (words_of_line (table_words name t) (l.1, l.2))
           ∙ further_words name (name ∷ number_word t.from ∷ map number_word t.levels) t (step_said name t w.0 w.1 w.2),
       steps_said name ts h (λ i x e. s (suc i) x e),
     )
@@ -73,7 +73,7 @@ spend_said : (name : List ℕ) (x : Spend) (after : List (List ℕ)) → IsWord 
 unfolding spend_lines
 spend_said name (Shares fractions) after h s o =
     let words : Words = name ∷ map number_word fractions in
-    spells_may (behind (codes "spend") (shares name)) (λ xs. Say (Shares xs)) (table name) (line_spelt (spend_words name fractions)) [] fractions (Shares fractions) after
+    spells_may (keyed_line (codes "spend") (shares name)) (λ xs. Say (Shares xs)) (table name) (line_spelt (spend_words name fractions)) [] fractions (Shares fractions) after
     (line_says (codes "spend") words (shares name) fractions (spend_line name fractions h) (shares_said name words fractions
     (record { numerals = map number_word fractions; words_are = refl; each = zip_map _ number_word fractions s.1; some = s.0 })))
     (spells_say (Shares fractions) after)
@@ -83,11 +83,11 @@ spend_said name (Table (t ∷ ts)) after h s o =
     let first = line_spelt (table_words name t) in
     let rest = map line_spelt (map (table_words name) ts) in
     let w = s.1 0 t refl in
-    spells_other (behind (codes "spend") (shares name)) (λ xs. Say (Shares xs)) (table name) (first ∷ rest) (Table (t ∷ ts)) after
+    spells_other (keyed_line (codes "spend") (shares name)) (λ xs. Say (Shares xs)) (table name) (first ∷ rest) (Table (t ∷ ts)) after
     (line_apart (codes "table") words (codes "spend") (shares name) (table_line name t h) refl)
-    (spells_then (Line (behind (codes "table") (first_step name))) (λ step. Then (more_lines (further_line name) (step ∷ [])) (λ steps. Say (Table steps)))
+    (spells_then (Line (keyed_line (codes "table") (first_step name))) (λ step. Then (more_lines (further_line name) (step ∷ [])) (λ steps. Say (Table steps)))
     (first ∷ []) rest t (Table (t ∷ ts)) after
-    (spells_line (behind (codes "table") (first_step name)) first t (rest ++ after)
+    (spells_line (keyed_line (codes "table") (first_step name)) first t (rest ++ after)
     (line_says (codes "table") words (first_step name) t (table_line name t h) (step_said name t w.0 w.1 w.2)))
     (spells_last (more_lines (further_line name) (t ∷ [])) Table rest (t ∷ ts) after
     (spells_lines (further_line name) (t ∷ []) rest ts after (steps_said name ts h (λ i x e. s.1 (suc i) x e)) o)))
@@ -99,7 +99,7 @@ table_other : (name other : List ℕ) (step : SpendStep) → IsWord other → ¬
     → further_line name (line_spelt (table_words other step)) ≡ None
 table_other name other step h n some =
     let l = table_line other step h in
-    ap (λ ws. if_step name (words_behind (codes "table") ws)) (words_of_line (table_words other step) (l.1, l.2)) ∙ by step.levels some
+    ap (λ ws. if_step name (words_after (codes "table") ws)) (words_of_line (table_words other step) (l.1, l.2)) ∙ by step.levels some
   where
     by : (levels : List Ratio) → 0 < length levels → if_named name (step_words (other ∷ number_word step.from ∷ map number_word levels)) ≡ None
     by [] few = absurd (let q : 0 < length {A = Ratio} [] = few in omega arith)
@@ -114,7 +114,7 @@ rest_other name [] spends after h n s o = o
 rest_other name (other ∷ names) [] after h n s o = o
 rest_other name (other ∷ names) (Shares fractions ∷ spends) after h n s o =
     let l = spend_line other fractions h.0 in
-    ap (λ ws. if_step name (words_behind (codes "table") ws)) (words_of_line (spend_words other fractions) (l.1, l.2))
+    ap (λ ws. if_step name (words_after (codes "table") ws)) (words_of_line (spend_words other fractions) (l.1, l.2))
 rest_other name (other ∷ names) (Table [] ∷ spends) after h n s o =
     absurd (let few : 0 < length {A = SpendStep} [] = (s 0 (Table []) refl).0 in omega arith)
 rest_other name (other ∷ names) (Table (t ∷ ts) ∷ spends) after h n s o =
@@ -167,10 +167,10 @@ module _ (names : List (List ℕ)) (words : Each names IsWord) where
   arrivals_other name (a ∷ arrivals) h =
       let w = h 0 a refl in
       let l = arrive_line a w.known w.stage in
-      ap (λ ws. if_step name (words_behind (codes "table") ws)) (words_of_line (arrive_words names a) (l.1, l.2))
+      ap (λ ws. if_step name (words_after (codes "table") ws)) (words_of_line (arrive_words names a) (l.1, l.2))
 
   pub arrivals_said : (apart : AreDistinct names) (arrivals : List Arrival) → Each arrivals (IsArrivalSaid (length names))
-      → AllZip (λ line a. behind (codes "arrive") (arrival names) line ≡ Some (Ok a)) (map line_spelt (map (arrive_words names) arrivals)) arrivals
+      → AllZip (λ line a. keyed_line (codes "arrive") (arrival names) line ≡ Some (Ok a)) (map line_spelt (map (arrive_words names) arrivals)) arrivals
   arrivals_said apart [] h = tt
   arrivals_said apart (a ∷ arrivals) h =
       let w = h 0 a refl in

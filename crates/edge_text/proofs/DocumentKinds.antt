@@ -6,12 +6,12 @@ use Rattle.std.specs.Str.{bytes_eq}
 use Rattle.field_core.specs.declared.ratio.Ratio.{Ratio}
 use Rattle.case_model.specs.declared.spend.Spend.{Spend}
 use Rattle.case_model.specs.declared.spend_step.SpendStep.{SpendStep}
-use Rattle.text_lines.specs.Words.{words_of, words_behind}
+use Rattle.text_lines.specs.Words.{words_of, words_after}
 use Rattle.edge_text.specs.declared.fault.LineKind.{LineKind}
 use Rattle.edge_text.specs.declared.fault.LineKind.TheVariants.{Ended}
 use Rattle.edge_text.specs.Grammar.{Words, one}
 use Rattle.edge_text.specs.WordReading.{number, numbers, given, edge, count, shares, first_step, step_of, step_words, arrival}
-use Rattle.text_lines.specs.Kinds.{behind, each_after}
+use Rattle.text_lines.specs.Kinds.{keyed_line, each_after}
 use Rattle.edge_text.specs.Document.{if_named, if_step, further_line, edge_line, block, blocks, spend, stages, after_p, document, kinds}
 use Rattle.text_lines.proofs.FaultKinds.{LeafRuns, Runs}
 use Rattle.edge_text.proofs.Endings.{Runs as Fine, number_runs, numbers_run, given_run, edge_runs, count_runs, shares_run, step_of_runs, first_step_runs, arrival_runs}
@@ -19,8 +19,8 @@ use Rattle.edge_text.proofs.Endings.{Runs as Fine, number_runs, numbers_run, giv
 some : {A : Type 0} (r : Result A LineKind) → Fine r → ◌≢◌ {A = Option (Result A LineKind)} (Some r) (Some (Err Ended))
 some r n e = n (let k : r ≡ Err Ended = cc in k)
 
-key : {A : Type 0} (keyword : List ℕ) (says : Words → Result A LineKind) → ((words : Words) → Fine (says words)) → LeafRuns kinds (behind keyword says)
-key {A} keyword says h line = by (words_behind keyword (words_of line))
+key : {A : Type 0} (keyword : List ℕ) (says : Words → Result A LineKind) → ((words : Words) → Fine (says words)) → LeafRuns kinds (keyed_line keyword says)
+key {A} keyword says h line = by (words_after keyword (words_of line))
   where
     by : (o : Option Words) → ◌≢◌ {A = Option (Result A LineKind)} (option_map says o) (Some (Err Ended))
     by (Some words) = some (says words) (h words)
@@ -30,7 +30,7 @@ edges_run : (names : Words) → LeafRuns kinds (edge_line names)
 edges_run names line = key (codes "edge") (edge names line) (edge_runs names line) line
 
 further_run : (name : List ℕ) → LeafRuns kinds (further_line name)
-further_run name line = by (words_behind (codes "table") (words_of line))
+further_run name line = by (words_after (codes "table") (words_of line))
   where
     chosen : (w : List ℕ × List ℕ × Words) (b : Bool)
         → ◌≢◌ {A = Option (Result SpendStep LineKind)} (if b then Some (step_of w.1 w.2) else None) (Some (Err Ended))

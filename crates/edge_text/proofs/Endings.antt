@@ -3,7 +3,7 @@ use Rattle.std.proofs.Common.{◌≢◌, ℕ, Bool, true, false, List, [], ◌�
 use Rattle.std.specs.Str.{bytes_eq}
 use Rattle.field_core.specs.Answers.{and_then, told_as}
 use Rattle.case_model.specs.Names.{position_of}
-use Rattle.text_lines.specs.Words.{behind_words, only_word, only_three}
+use Rattle.text_lines.specs.Words.{after_words, only_word, only_three}
 use Rattle.fraction.specs.Numerals.{numeral_of}
 use Rattle.entries.specs.Entries.{entry_of}
 use Rattle.edge_text.specs.declared.fault.LineKind.{LineKind}
@@ -62,7 +62,7 @@ edge_runs names line words =
     found (ends_of words) WordCount _ (λ e. cc)
     (λ ends. found (position_of ends.0 names) UnknownName _ (λ e. cc)
     (λ from. found (position_of ends.1 names) UnknownName _ (λ e. cc)
-    (λ to. chain (entry (behind_words 3 line)) _ (tell Expr (entry_of (behind_words 3 line)) (λ f e. cc)) (λ weight. fine _))))
+    (λ to. chain (entry (after_words 3 line)) _ (tell Expr (entry_of (after_words 3 line)) (λ f e. cc)) (λ weight. fine _))))
 
 whole_runs : (word : List ℕ) → Runs (whole word)
 whole_runs word = choose (is_whole word) _ _ (fine _) (other Whole (λ e. cc))

@@ -14,7 +14,7 @@ use Rattle.case_model.specs.declared.spend.Spend.TheVariants.{Shares, Table}
 use Rattle.case_model.specs.declared.spend_step.SpendStep.{SpendStep}
 use Rattle.text_lines.specs.Languages.{FaultAt, on_line, reading as places_reading}
 use Rattle.text_lines.specs.Lines.{Row as TextRow}
-use Rattle.text_lines.specs.Words.{words_of, words_behind}
+use Rattle.text_lines.specs.Words.{words_of, words_after}
 use Rattle.edge_text.specs.declared.fault.LineKind.{LineKind}
 use Rattle.edge_text.specs.declared.fault.LineKind.TheVariants.{Unexpected, WordCount}
 use Rattle.edge_text.specs.declared.place.Place.{Place}
@@ -22,10 +22,10 @@ use Rattle.edge_text.specs.declared.place.Place.TheVariants as at
 use Rattle.edge_text.specs.Drafts.{named, with_p, with_component, edgeless, with_edge, with_stages, with_spend, with_arrival, counted}
 use Rattle.edge_text.specs.Grammar.{Words, one}
 use Rattle.edge_text.specs.Places.{block as block_step, stages as stages_step, next_block, spend_or_arrive, is_due, further, due, step, unless_due, cases}
-use Rattle.edge_text.specs.WordReading.{behind as on_keyword, on_words, found_or, number, numbers, given, edge, count, shares, first_step, step_of, step_words, arrival}
+use Rattle.edge_text.specs.WordReading.{on_keyword, on_words, found_or, number, numbers, given, edge, count, shares, first_step, step_of, step_words, arrival}
 use Rattle.edge_text.proofs.LinesTaken.{left_of, all_left, first_left, none_left, push_left}
 use Rattle.text_lines.specs.Forms.{Say, Line, Then, May, Many, Seen, texts_seen, all_read, reading}
-use Rattle.text_lines.specs.Kinds.{behind, more_lines, each_after}
+use Rattle.text_lines.specs.Kinds.{keyed_line, more_lines, each_after}
 use Rattle.edge_text.specs.Document.{Lines, edge_line, if_named, if_step, further_line, share_line, block, table, spend, stages, document, kinds}
 use Rattle.edge_text.proofs.FormRuns.{picked, picked_same, on_said, run, run_same, run_say, run_then, run_line, run_may, run_many, run_lines}
 
@@ -78,7 +78,7 @@ module _ (end : ℕ) where
       run kinds (more_lines (edge_line d.names) k.edges) rows end (λ es rest. behind_block shared d (d.components ++ with_edges k es ∷ []) rest)
 
   abbrev weights_on : Bool → Draft → Ratio → Rows → Answer
-  weights_on shared d share rows = run kinds (Line (behind (codes "weights") numbers)) rows end (λ weights rest. edges_on shared d (edgeless share weights) rest)
+  weights_on shared d share rows = run kinds (Line (keyed_line (codes "weights") numbers)) rows end (λ weights rest. edges_on shared d (edgeless share weights) rest)
 
   abbrev blocks_of : Draft → Lines (List DraftComponent)
   blocks_of d = May share_line (λ share. Then (block d.names share) (λ k. Many share_line (λ ks share. block d.names share) (d.components ++ k ∷ [])))
@@ -88,7 +88,7 @@ module _ (end : ℕ) where
   blocks_on d rows = run kinds (blocks_of d) rows end (λ ks rest. tail d ks rest)
 
   abbrev arrivals_on : Draft → DraftStages → List Spend → Rows → Answer
-  arrivals_on d s spends rows = run kinds (more_lines (behind (codes "arrive") (arrival d.names)) s.arrivals) rows end
+  arrivals_on d s spends rows = run kinds (more_lines (keyed_line (codes "arrive") (arrival d.names)) s.arrivals) rows end
       (λ arrivals rest. last d d.components (Some (with_arrivals s spends arrivals)) rest)
 
   abbrev spends_on : Draft → DraftStages → List (List ℕ) → List Spend → Rows → Answer
@@ -106,11 +106,11 @@ module _ (end : ℕ) where
   after d = Then (blocks_of d) (λ ks. Then (stages d.names) (λ s. Say (made d ks s)))
 
   abbrev values : Draft → Lines Draft
-  values d = May (behind (codes "p") given) (λ p. after (with_p d p)) (after d)
+  values d = May (keyed_line (codes "p") given) (λ p. after (with_p d p)) (after d)
 
   abbrev from : Place → Rows → Answer
   from at.Alpha rows = run kinds document rows end (all_read kinds)
-  from (at.Names alpha) rows = run kinds (Line (behind (codes "hypotheses") (λ words. Ok words))) rows end (λ names rest. run kinds (values (named alpha names)) rest end (all_read kinds))
+  from (at.Names alpha) rows = run kinds (Line (keyed_line (codes "hypotheses") (λ words. Ok words))) rows end (λ names rest. run kinds (values (named alpha names)) rest end (all_read kinds))
   from (at.Values d) rows = run kinds (values d) rows end (all_read kinds)
   from (at.Block d) rows = run kinds (after d) rows end (all_read kinds)
   from (at.Weights d share) rows = weights_on true d share rows
@@ -133,11 +133,11 @@ module _ (end : ℕ) where
 
   block_run : (names : Words) (share : Ratio) (rows : Rows) (k : DraftComponent → Rows → Answer)
       → run kinds (block names share) rows end k
-      ≡ run kinds (Line (behind (codes "weights") numbers)) rows end (λ weights rest.
+      ≡ run kinds (Line (keyed_line (codes "weights") numbers)) rows end (λ weights rest.
       run kinds (more_lines (edge_line names) []) rest end (λ es more. k (record { share = share; weights = weights; edges = es }) more))
   block_run names share rows k =
-      run_then kinds (Line (behind (codes "weights") numbers)) _ rows end k
-      ∙ run_same kinds (Line (behind (codes "weights") numbers)) rows end _ _ (λ weights rest.
+      run_then kinds (Line (keyed_line (codes "weights") numbers)) _ rows end k
+      ∙ run_same kinds (Line (keyed_line (codes "weights") numbers)) rows end _ _ (λ weights rest.
       run_then kinds (more_lines (edge_line names) []) _ rest end k
       ∙ run_same kinds (more_lines (edge_line names) []) rest end _ _ (λ es more. run_say kinds (record { share = share; weights = weights; edges = es }) more end k))
 
@@ -173,21 +173,21 @@ module _ (end : ℕ) where
     step_by : {A : Type 0} (keyword : List ℕ) (says : Words → Result A LineKind) (to : A → Place) (other : Result Place LineKind)
         (f : A → Answer) (x : Answer) → ((a : A) → places_reading cases (to a) rows end ≡ f a) → machine row.number other rows ≡ x
         → machine row.number (on_keyword keyword row.text (λ words. and_then (says words) (λ a. Ok (to a))) other) rows
-        ≡ picked row.number (behind keyword says row.text) f x
+        ≡ picked row.number (keyed_line keyword says row.text) f x
     step_by keyword says to other f x h e =
         on_said row.number keyword row.text says to other (λ next. places_reading cases next rows end)
-        ∙ picked_same row.number (behind keyword says row.text) _ _ _ _ (λ a q. h a) e
+        ∙ picked_same row.number (keyed_line keyword says row.text) _ _ _ _ (λ a q. h a) e
 
     stages_run : (d : Draft) (k : DraftComponent) (n : ℕ) (more : Rows)
         → spends_on (with_component d k) (counted n) (left_of d.names 0) [] more
-        ≡ run kinds (Then (each_after spend [] d.names) (λ spends. Then (more_lines (behind (codes "arrive") (arrival d.names)) [])
+        ≡ run kinds (Then (each_after spend [] d.names) (λ spends. Then (more_lines (keyed_line (codes "arrive") (arrival d.names)) [])
         (λ arrivals. Say (Some (record { count = n; spend = spends; arrivals = arrivals }))))) more end (λ s rest. last d (d.components ++ k ∷ []) s rest)
     stages_run d k n more =
         ap (λ ns. spends_on (with_component d k) (counted n) ns [] more) (all_left d.names)
         ∙ sym (run_then kinds (each_after spend [] d.names) _ more end _
         ∙ run_same kinds (each_after spend [] d.names) more end _ _ (λ spends rest.
-        run_then kinds (more_lines (behind (codes "arrive") (arrival d.names)) []) _ rest end _
-        ∙ run_same kinds (more_lines (behind (codes "arrive") (arrival d.names)) []) rest end _ _ (λ arrivals others.
+        run_then kinds (more_lines (keyed_line (codes "arrive") (arrival d.names)) []) _ rest end _
+        ∙ run_same kinds (more_lines (keyed_line (codes "arrive") (arrival d.names)) []) rest end _ _ (λ arrivals others.
         run_say kinds (Some (record { count = n; spend = spends; arrivals = arrivals })) others end _)))
 
     stages_taken : (d : Draft) (k : DraftComponent)
@@ -195,7 +195,7 @@ module _ (end : ℕ) where
     stages_taken d k =
         step_by (codes "stages") count (λ n. at.Spends (with_component d k) (counted n)) (Err Unexpected) _ refused
         (λ n. ih (at.Spends (with_component d k) (counted n)) tt ∙ stages_run d k n (texts_seen rows)) refl
-        ∙ sym (run_may kinds (behind (codes "stages") count) _ (Say None) _ (texts_seen rows) end _)
+        ∙ sym (run_may kinds (keyed_line (codes "stages") count) _ (Say None) _ (texts_seen rows) end _)
 
     next_taken : (shared : Bool) (d : Draft) (k : DraftComponent)
         → machine row.number (next_block shared d k row.text) rows ≡ behind_block shared d (d.components ++ k ∷ []) (texts_seen (row ∷ rows))
@@ -219,7 +219,7 @@ module _ (end : ℕ) where
     weights_taken shared d share =
         step_by (codes "weights") numbers (λ weights. at.Edges shared d (edgeless share weights)) (Err Unexpected) _ refused
         (λ weights. ih (at.Edges shared d (edgeless share weights)) tt) refl
-        ∙ sym (run_line kinds (behind (codes "weights") numbers) _ (texts_seen rows) end _)
+        ∙ sym (run_line kinds (keyed_line (codes "weights") numbers) _ (texts_seen rows) end _)
 
     block_taken : (d : Draft) → machine row.number (block_step d row.text) rows ≡ run kinds (after d) (texts_seen (row ∷ rows)) end (all_read kinds)
     block_taken d =
@@ -230,20 +230,20 @@ module _ (end : ℕ) where
     values_taken : (d : Draft) → machine row.number (step (at.Values d) row.text) rows ≡ from (at.Values d) (texts_seen (row ∷ rows))
     values_taken d =
         step_by (codes "p") given (λ p. at.Block (with_p d p)) (block_step d row.text) _ _ (λ p. ih (at.Block (with_p d p)) tt) (block_taken d)
-        ∙ sym (run_may kinds (behind (codes "p") given) (λ p. after (with_p d p)) (after d) _ (texts_seen rows) end (all_read kinds))
+        ∙ sym (run_may kinds (keyed_line (codes "p") given) (λ p. after (with_p d p)) (after d) _ (texts_seen rows) end (all_read kinds))
 
     names_taken : (alpha : Ratio) → machine row.number (step (at.Names alpha) row.text) rows ≡ from (at.Names alpha) (texts_seen (row ∷ rows))
     names_taken alpha =
         step_by (codes "hypotheses") (λ words. Ok words) (λ names. at.Values (named alpha names)) (Err Unexpected) _ refused
         (λ names. ih (at.Values (named alpha names)) tt) refl
-        ∙ sym (run_line kinds (behind (codes "hypotheses") (λ words. Ok words)) _ (texts_seen rows) end _)
+        ∙ sym (run_line kinds (keyed_line (codes "hypotheses") (λ words. Ok words)) _ (texts_seen rows) end _)
 
     alpha_taken : machine row.number (step at.Alpha row.text) rows ≡ from at.Alpha (texts_seen (row ∷ rows))
     alpha_taken =
         step_by (codes "alpha") number (λ alpha. at.Names alpha) (Err Unexpected) _ refused
-        (λ alpha. ih (at.Names alpha) tt ∙ sym (run_then kinds (Line (behind (codes "hypotheses") (λ words. Ok words))) _ (texts_seen rows) end (all_read kinds))) refl
-        ∙ sym (run_then kinds (Line (behind (codes "alpha") number)) _ (texts_seen (row ∷ rows)) end (all_read kinds)
-        ∙ run_line kinds (behind (codes "alpha") number) _ (texts_seen rows) end _)
+        (λ alpha. ih (at.Names alpha) tt ∙ sym (run_then kinds (Line (keyed_line (codes "hypotheses") (λ words. Ok words))) _ (texts_seen rows) end (all_read kinds))) refl
+        ∙ sym (run_then kinds (Line (keyed_line (codes "alpha") number)) _ (texts_seen (row ∷ rows)) end (all_read kinds)
+        ∙ run_line kinds (keyed_line (codes "alpha") number) _ (texts_seen rows) end _)
 
     -- ---- stages
 
@@ -268,7 +268,7 @@ module _ (end : ℕ) where
         (λ a. ih (at.Spends d (with_arrival s a)) tt ∙ ap (λ ns. spends_on d (with_arrival s a) ns s.spend (texts_seen rows)) l
         ∙ run_say kinds s.spend (texts_seen rows) end (arrivals_on d (with_arrival s a))) refl
         ∙ sym (run_say kinds s.spend (texts_seen (row ∷ rows)) end (arrivals_on d s)
-        ∙ run_lines kinds (behind (codes "arrive") (arrival d.names)) s.arrivals _ (texts_seen rows) end _)
+        ∙ run_lines kinds (keyed_line (codes "arrive") (arrival d.names)) s.arrivals _ (texts_seen rows) end _)
     spends_taken d s (name ∷ more) l =
         ap (λ o. machine row.number (spend_or_arrive o d s row.text) rows) (first_left d.names (length s.spend) name more l)
         ∙ step_by (codes "spend") (shares name) (λ xs. at.Spends d (with_spend s (Shares xs))) _
@@ -278,11 +278,11 @@ module _ (end : ℕ) where
         (λ t. steps_on d s (name ∷ more) (t ∷ []) (texts_seen rows)) refused
         (λ t. ih (at.Steps d s (t ∷ [])) (name, more, l) ∙ ap (λ ns. steps_on d s ns (t ∷ []) (texts_seen rows)) l) refl)
         ∙ sym (run_then kinds (spend name) _ (texts_seen (row ∷ rows)) end (arrivals_on d s)
-        ∙ run_may kinds (behind (codes "spend") (shares name)) (λ xs. Say (Shares xs)) (table name) _ (texts_seen rows) end (λ a rest. spends_on d s more (s.spend ++ a ∷ []) rest)
-        ∙ picked_same row.number (behind (codes "spend") (shares name) row.text) _ _ _ _ (λ xs q. run_say kinds (Shares xs) (texts_seen rows) end (λ a rest. spends_on d s more (s.spend ++ a ∷ []) rest))
-        (run_then kinds (Line (behind (codes "table") (first_step name))) _ (texts_seen (row ∷ rows)) end _
-        ∙ run_line kinds (behind (codes "table") (first_step name)) _ (texts_seen rows) end _
-        ∙ picked_same row.number (behind (codes "table") (first_step name) row.text) _ _ _ _ (λ t q. table_run d s name more t (texts_seen rows)) refl))
+        ∙ run_may kinds (keyed_line (codes "spend") (shares name)) (λ xs. Say (Shares xs)) (table name) _ (texts_seen rows) end (λ a rest. spends_on d s more (s.spend ++ a ∷ []) rest)
+        ∙ picked_same row.number (keyed_line (codes "spend") (shares name) row.text) _ _ _ _ (λ xs q. run_say kinds (Shares xs) (texts_seen rows) end (λ a rest. spends_on d s more (s.spend ++ a ∷ []) rest))
+        (run_then kinds (Line (keyed_line (codes "table") (first_step name))) _ (texts_seen (row ∷ rows)) end _
+        ∙ run_line kinds (keyed_line (codes "table") (first_step name)) _ (texts_seen rows) end _
+        ∙ picked_same row.number (keyed_line (codes "table") (first_step name) row.text) _ _ _ _ (λ t q. table_run d s name more t (texts_seen rows)) refl))
 
     module _ (d : Draft) (s : DraftStages) (steps : List SpendStep) (name : List ℕ) (more : Words) (l : left d s ≡ name ∷ more) where
       abbrev other : Result Place LineKind
@@ -323,7 +323,7 @@ module _ (end : ℕ) where
       if_table None = other_read
 
       steps_taken : machine row.number (step (at.Steps d s steps) row.text) rows ≡ steps_on d s (name ∷ more) steps (texts_seen (row ∷ rows))
-      steps_taken = if_table (words_behind (codes "table") (words_of row.text)) ∙ sym (run_lines kinds (further_line name) steps _ (texts_seen rows) end _)
+      steps_taken = if_table (words_after (codes "table") (words_of row.text)) ∙ sym (run_lines kinds (further_line name) steps _ (texts_seen rows) end _)
 
     line_read : (place : Place) → Fits place → places_reading cases place (row ∷ rows) end ≡ from place (texts_seen (row ∷ rows))
     line_read at.Alpha h = alpha_taken

@@ -3,10 +3,10 @@ use Rattle.std.proofs.Common.{◌≡◌, ℕ, List, [], ◌∷◌, ◌++◌, Opt
 use Rattle.std.specs.Option.{option_map}
 use Rattle.field_core.specs.Answers.{and_then}
 use Rattle.text_lines.specs.Languages.{FaultAt, on_line}
-use Rattle.text_lines.specs.Words.{words_of, words_behind}
-use Rattle.edge_text.specs.WordReading.{behind, on_words}
+use Rattle.text_lines.specs.Words.{words_of, words_after}
+use Rattle.edge_text.specs.WordReading.{on_keyword, on_words}
 use Rattle.text_lines.specs.Forms.{Leaf, Form, Say, Line, Then, May, Many, Kinds, Seen, one_taken, took_on, may_take, next, read}
-use Rattle.text_lines.specs.Kinds.{more_lines, behind as behind_leaf}
+use Rattle.text_lines.specs.Kinds.{more_lines, keyed_line}
 use Rattle.text_lines.proofs.FormReads.{read_say, read_then}
 
 -- The answer to what a line of a kind says; or what is wrong with the line; or, if it is of another kind, the other answer.
@@ -24,9 +24,9 @@ picked_same n None f g x y h e = e
 -- a line of the machine that says something, or else another one
 pub on_said : {K A Next B : Type 0} (n : ℕ) (keyword line : List ℕ) (says : List (List ℕ) → Result A K) (to : A → Next) (other : Result Next K)
     (more : Next → Result B (FaultAt K))
-    → and_then (on_line n (behind keyword line (λ words. and_then (says words) (λ x. Ok (to x))) other)) more
-    ≡ picked n (behind_leaf keyword says line) (λ x. more (to x)) (and_then (on_line n other) more)
-on_said {K} {A} {Next} {B} n keyword line says to other more = by (words_behind keyword (words_of line))
+    → and_then (on_line n (on_keyword keyword line (λ words. and_then (says words) (λ x. Ok (to x))) other)) more
+    ≡ picked n (keyed_line keyword says line) (λ x. more (to x)) (and_then (on_line n other) more)
+on_said {K} {A} {Next} {B} n keyword line says to other more = by (words_after keyword (words_of line))
   where
     one : (r : Result A K) → and_then (on_line n (and_then r (λ x. Ok (to x)))) more ≡ picked n (Some r) (λ x. more (to x)) (and_then (on_line n other) more)
     one (Ok x) = refl

@@ -3,7 +3,7 @@ use Rattle.std.proofs.Common.{◌≡◌, ◌<◌, ℕ, Bool, true, false, List, 
 use Rattle.std.specs.Str.{bytes_eq}
 use Rattle.std.proofs.lemmas.Slice.Eq.{bytes_eq-Decides}
 use Rattle.field_core.specs.declared.ratio.Ratio.{Ratio}
-use Rattle.text_lines.specs.Words.{behind_words, only_word, only_three}
+use Rattle.text_lines.specs.Words.{after_words, only_word, only_three}
 use Rattle.case_model.specs.declared.draft_edge.DraftEdge.{DraftEdge}
 use Rattle.case_model.specs.declared.spend_step.SpendStep.{SpendStep}
 use Rattle.case_model.specs.declared.draft_stages.Arrival.{Arrival}
@@ -99,7 +99,7 @@ pub edge_said : (names : List (List ℕ)) (line : List ℕ) (words : Words) (e :
 edge_said names line words e h =
     let f = h.from_is in
     let t = h.to_is in
-    let n = entry_said (behind_words 3 line) e.entry h.says in
+    let n = entry_said (after_words 3 line) e.entry h.says in
     ap (edge names line) h.ends.words_are ∙ rw (f, t, n) refl
 
 pub edge_is : (names : List (List ℕ)) (line : List ℕ) (words : Words) (e : DraftEdge) → edge names line words ≡ Ok e → IsEdge names line words e
@@ -107,7 +107,7 @@ edge_is names line words e q =
     let w = found_of (ends_of words) WordCount _ e q in
     let f = found_of (position_of w.0.0 names) UnknownName _ e w.2 in
     let t = found_of (position_of w.0.1 names) UnknownName _ e f.2 in
-    let n = came_from (entry (behind_words 3 line)) (λ x. Ok (record { from = f.0; to = t.0; entry = x })) e t.2 in
+    let n = came_from (entry (after_words 3 line)) (λ x. Ok (record { from = f.0; to = t.0; entry = x })) e t.2 in
     let made : DraftEdge = record { from = f.0; to = t.0; entry = n.0 } in
     let is : IsEdge names line words made = record {
       from = w.0.0;
@@ -115,7 +115,7 @@ edge_is names line words e q =
       ends = three_ends words w.0 w.1;
       from_is = f.1;
       to_is = t.1;
-      says = entry_says (behind_words 3 line) n.0 n.1;
+      says = entry_says (after_words 3 line) n.0 n.1;
     } in
     subst (IsEdge names line words) (same_value made e n.2) is
 

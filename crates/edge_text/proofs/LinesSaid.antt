@@ -7,8 +7,8 @@ use Rattle.std.proofs.lemmas.Slice.Eq.{bytes_eq-Decides}
 use Rattle.case_model.specs.declared.draft_edge.DraftEdge.{DraftEdge}
 use Rattle.case_model.specs.declared.draft_stages.Arrival.{Arrival}
 use Rattle.case_model.specs.declared.spend_step.SpendStep.{SpendStep}
-use Rattle.text_lines.specs.Kinds.{behind}
-use Rattle.text_lines.specs.Words.{words_of, words_behind}
+use Rattle.text_lines.specs.Kinds.{keyed_line}
+use Rattle.text_lines.specs.Words.{words_of, words_after}
 use Rattle.text_lines.proofs.Keywords.{keyword_found}
 use Rattle.edge_text.specs.declared.fault.LineKind.{LineKind}
 use Rattle.edge_text.specs.Document.{edge_line, if_named, if_step, further_line}
@@ -21,17 +21,17 @@ use Rattle.edge_text.proofs.LinesTaken.{step_says, further_words}
 
 pub line_said : {A : Type 0} {Are : Words → A → Type 0} (keyword : List ℕ) (says : Words → Result A LineKind)
     (leaf : (words : Words) (x : A) → Are words x → says words ≡ Ok x) (line : List ℕ) (x : A)
-    → IsLineOf keyword line (λ words. Are words x) → behind keyword says line ≡ Some (Ok x)
+    → IsLineOf keyword line (λ words. Are words x) → keyed_line keyword says line ≡ Some (Ok x)
 line_said keyword says leaf line x h =
     let same : bytes_eq keyword keyword ≡ true = (bytes_eq-Decides keyword keyword).1 refl in
-    ap (λ ws. option_map says (words_behind keyword ws)) h.words ∙ rw same (ap Some (leaf h.behind x h.are))
+    ap (λ ws. option_map says (words_after keyword ws)) h.words ∙ rw same (ap Some (leaf h.behind x h.are))
 
 pub line_is : {A : Type 0} {Are : Words → A → Type 0} (keyword : List ℕ) (says : Words → Result A LineKind)
     (leaf : (words : Words) (x : A) → says words ≡ Ok x → Are words x) (line : List ℕ) (x : A)
-    → behind keyword says line ≡ Some (Ok x) → IsLineOf keyword line (λ words. Are words x)
-line_is {A} {Are} keyword says leaf line x e = by (words_behind keyword (words_of line)) refl e
+    → keyed_line keyword says line ≡ Some (Ok x) → IsLineOf keyword line (λ words. Are words x)
+line_is {A} {Are} keyword says leaf line x e = by (words_after keyword (words_of line)) refl e
   where
-    by : (o : Option Words) → o ≡ words_behind keyword (words_of line) → ◌≡◌ {A = Option (Result A LineKind)} (option_map says o) (Some (Ok x))
+    by : (o : Option Words) → o ≡ words_after keyword (words_of line) → ◌≡◌ {A = Option (Result A LineKind)} (option_map says o) (Some (Ok x))
         → IsLineOf keyword line (λ words. Are words x)
     by (Some words) k q =
         let s : says words ≡ Ok x = cc in record { behind = words; words = keyword_found keyword (words_of line) words k; are = leaf words x s }
@@ -40,13 +40,13 @@ line_is {A} {Are} keyword says leaf line x e = by (words_behind keyword (words_o
 -- both ways
 both_ways : {A : Type 0} {Are : Words → A → Type 0} (keyword : List ℕ) (says : Words → Result A LineKind)
     → ((words : Words) (x : A) → Are words x → says words ≡ Ok x) → ((words : Words) (x : A) → says words ≡ Ok x → Are words x)
-    → IsReadAs (behind keyword says) (λ line x. IsLineOf keyword line (λ words. Are words x))
+    → IsReadAs (keyed_line keyword says) (λ line x. IsLineOf keyword line (λ words. Are words x))
 both_ways keyword says said is line x = ((λ e. line_is keyword says is line x e), (λ h. line_said keyword says said line x h))
 
 pub edge_line_is : (names : Words) (line : List ℕ) (e : DraftEdge) → edge_line names line ≡ Some (Ok e) → IsEdgeLine names line e
 edge_line_is names line e q = line_is (codes "edge") (edge names line) (edge_is names line) line e q
 
-pub arrive_line_is : (names : Words) (line : List ℕ) (a : Arrival) → behind (codes "arrive") (arrival names) line ≡ Some (Ok a) → IsArriveLine names line a
+pub arrive_line_is : (names : Words) (line : List ℕ) (a : Arrival) → keyed_line (codes "arrive") (arrival names) line ≡ Some (Ok a) → IsArriveLine names line a
 arrive_line_is names line a q = line_is (codes "arrive") (arrival names) (arrival_is names) line a q
 
 -- ---- further steps of a table
@@ -54,10 +54,10 @@ arrive_line_is names line a q = line_is (codes "arrive") (arrival names) (arriva
 further_said : (name line : List ℕ) (t : SpendStep) → IsTableLine name line t → further_line name line ≡ Some (Ok t)
 further_said name line t h =
     let same : bytes_eq (codes "table") (codes "table") ≡ true = refl in
-    ap (λ ws. if_step name (words_behind (codes "table") ws)) h.words ∙ further_words name h.behind t (first_said name h.behind t h.are)
+    ap (λ ws. if_step name (words_after (codes "table") ws)) h.words ∙ further_words name h.behind t (first_said name h.behind t h.are)
 
 further_is : (name line : List ℕ) (t : SpendStep) → further_line name line ≡ Some (Ok t) → IsTableLine name line t
-further_is name line t e = by (words_behind (codes "table") (words_of line)) refl e
+further_is name line t e = by (words_after (codes "table") (words_of line)) refl e
   where
     chosen : (words : Words) (w : List ℕ × List ℕ × Words) (b : Bool) → step_words words ≡ Some w → bytes_eq w.0 name ≡ b
         → ◌≡◌ {A = Option (Result SpendStep LineKind)} (if b then Some (step_of w.1 w.2) else None) (Some (Ok t)) → first_step name words ≡ Ok t
@@ -68,7 +68,7 @@ further_is name line t e = by (words_behind (codes "table") (words_of line)) ref
     named words (Some w) f q = chosen words w (bytes_eq w.0 name) f refl q
     named words None f q = absurd (cc)
 
-    by : (o : Option Words) → o ≡ words_behind (codes "table") (words_of line) → if_step name o ≡ Some (Ok t) → IsTableLine name line t
+    by : (o : Option Words) → o ≡ words_after (codes "table") (words_of line) → if_step name o ≡ Some (Ok t) → IsTableLine name line t
     by (Some words) k q = record {
       behind = words;
       words = keyword_found (codes "table") (words_of line) words k;

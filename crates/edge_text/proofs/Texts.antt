@@ -18,7 +18,7 @@ use Rattle.case_model.specs.CaseFaults.{case_fault}
 use Rattle.case_model.specs.Draft.{have_known_ends, have_known_arrivals, arrives_among}
 use Rattle.case_model.specs.Names.{position_of}
 use Rattle.text_lines.specs.Forms.{Seen, AreMany, Is, IsDocument, texts_seen}
-use Rattle.text_lines.specs.Kinds.{behind}
+use Rattle.text_lines.specs.Kinds.{keyed_line}
 use Rattle.text_lines.specs.Languages.{reading}
 use Rattle.text_lines.specs.Lines.{rows_of, end_of}
 use Rattle.text_lines.proofs.FormLines.{lines_all}
@@ -51,7 +51,7 @@ module _ (names : Words) (P : DraftEdge → Type 0) (edges : (line : List ℕ) (
       subst (EdgesAll P) (sym h.3.3.0) (subst (AllByRecursion P) (sym m.1)
       (lines_all (edge_line names) P (λ line e q. edges line e (edge_line_is names line e q)) [] m.0 h.1 h.3.1 m.2))
 
-  blocks_many : (before ks : List DraftComponent) (rows rest : Rows) → AreMany (behind (codes "component") number) (λ ks share. Is (block names share)) before rows ks rest
+  blocks_many : (before ks : List DraftComponent) (rows rest : Rows) → AreMany (keyed_line (codes "component") number) (λ ks share. Is (block names share)) before rows ks rest
       → AllByRecursion (EdgesAll P) ks
   blocks_many before [] rows rest m = tt
   blocks_many before (k ∷ ks) rows rest m = (block_all m.0 m.1 m.2 k m.4, blocks_many (before ++ k ∷ []) ks m.2 rest m.5)
@@ -97,7 +97,7 @@ arrivals_all : (names : Words) (P : Arrival → Type 0) → ((line : List ℕ) (
 arrivals_all names P arrives rows rest o (inl h) =
     let m = h.3.3.2 in
     subst (ArrivalsAll P) (sym h.3.3.3.0) (subst (AllByRecursion P) (sym m.1)
-    (lines_all (behind (codes "arrive") (arrival names)) P (λ line a q. arrives line a (arrive_line_is names line a q)) [] m.0 h.3.1 h.3.3.1 m.2))
+    (lines_all (keyed_line (codes "arrive") (arrival names)) P (λ line a q. arrives line a (arrive_line_is names line a q)) [] m.0 h.3.1 h.3.3.1 m.2))
 arrivals_all names P arrives rows rest o (inr h) = subst (ArrivalsAll P) (sym h.1.0) tt
 
 -- ---- known ends

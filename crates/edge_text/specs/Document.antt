@@ -11,9 +11,9 @@ use Rattle.case_model.specs.declared.spend.Spend.TheVariants.{Shares, Table}
 use Rattle.case_model.specs.declared.spend_step.SpendStep.{SpendStep}
 use Rattle.text_lines.specs.Faults.{FaultAt}
 use Rattle.text_lines.specs.Forms.{Form, Say, Line, Then, May, Many, Kinds, Leaf, texts_seen, reading}
-use Rattle.text_lines.specs.Kinds.{behind, more_lines, each_of}
+use Rattle.text_lines.specs.Kinds.{keyed_line, more_lines, each_of}
 use Rattle.text_lines.specs.Lines.{rows_of, end_of}
-use Rattle.text_lines.specs.Words.{words_of, words_behind}
+use Rattle.text_lines.specs.Words.{words_of, words_after}
 use Rattle.edge_text.specs.declared.fault.LineKind.{LineKind}
 use Rattle.edge_text.specs.declared.fault.LineKind.TheVariants.{Unexpected, Ended, WordCount}
 use Rattle.edge_text.specs.Grammar.{Words, one}
@@ -27,7 +27,7 @@ Lines A = Form (List ℕ) LineKind A
 
 -- `edge`: the expression is all that follows the second name
 abbrev pub edge_line : Words → Leaf (List ℕ) LineKind DraftEdge
-edge_line names line = behind (codes "edge") (edge names line) line
+edge_line names line = keyed_line (codes "edge") (edge names line) line
 
 -- a further step of the table of this name; a step of another table is a line of another kind
 abbrev pub if_named : List ℕ → Option (List ℕ × List ℕ × Words) → Option (Result SpendStep LineKind)
@@ -40,18 +40,18 @@ if_step name None = None
 
 -- `table`, if it names this table
 abbrev pub further_line : List ℕ → Leaf (List ℕ) LineKind SpendStep
-further_line name line = if_step name (words_behind (codes "table") (words_of line))
+further_line name line = if_step name (words_after (codes "table") (words_of line))
 
 -- `component`, with the share of the component that follows
 abbrev pub share_line : Leaf (List ℕ) LineKind Ratio
-share_line = behind (codes "component") number
+share_line = keyed_line (codes "component") number
 
 -- ---- documents
 
 -- a component of this share: its weights, and then its edges
 abbrev pub block : Words → Ratio → Lines DraftComponent
 block names share =
-    Then (Line (behind (codes "weights") numbers)) (λ weights.
+    Then (Line (keyed_line (codes "weights") numbers)) (λ weights.
     Then (more_lines (edge_line names) []) (λ edges.
     Say (record { share = share; weights = weights; edges = edges })))
 
@@ -65,19 +65,19 @@ blocks names =
 -- all lines of the table of this name that follow one another
 abbrev pub table : List ℕ → Lines Spend
 table name =
-    Then (Line (behind (codes "table") (first_step name))) (λ step.
+    Then (Line (keyed_line (codes "table") (first_step name))) (λ step.
     Then (more_lines (further_line name) (step ∷ [])) (λ steps. Say (Table steps)))
 
 -- What the hypothesis of this name spends: a line of shares, or its table.
 abbrev pub spend : List ℕ → Lines Spend
-spend name = May (behind (codes "spend") (shares name)) (λ xs. Say (Shares xs)) (table name)
+spend name = May (keyed_line (codes "spend") (shares name)) (λ xs. Say (Shares xs)) (table name)
 
 -- The stages, if there are some: their number, what each hypothesis spends, in the order of the names, and the p-values that arrived.
 abbrev pub stages : Words → Lines (Option DraftStages)
 stages names =
-    May (behind (codes "stages") count) (λ n.
+    May (keyed_line (codes "stages") count) (λ n.
     Then (each_of spend names) (λ spends.
-    Then (more_lines (behind (codes "arrive") (arrival names)) []) (λ arrivals.
+    Then (more_lines (keyed_line (codes "arrive") (arrival names)) []) (λ arrivals.
     Say (Some (record { count = n; spend = spends; arrivals = arrivals })))))
     (Say None)
 
@@ -91,9 +91,9 @@ after_p alpha names p =
 -- A case: its level, its names, perhaps its p-values, its components, and perhaps its stages.
 abbrev pub document : Lines Draft
 document =
-    Then (Line (behind (codes "alpha") number)) (λ alpha.
-    Then (Line (behind (codes "hypotheses") (λ words. Ok words))) (λ names.
-    May (behind (codes "p") given) (after_p alpha names) (after_p alpha names [])))
+    Then (Line (keyed_line (codes "alpha") number)) (λ alpha.
+    Then (Line (keyed_line (codes "hypotheses") (λ words. Ok words))) (λ names.
+    May (keyed_line (codes "p") given) (after_p alpha names) (after_p alpha names [])))
 
 -- ---- texts
 

@@ -4,7 +4,7 @@ use Rattle.field_core.specs.declared.ratio.Ratio.{Ratio}
 use Rattle.case_model.specs.declared.draft.Draft.{Draft}
 use Rattle.text_lines.specs.Forms.{Leaf, texts_seen, reading, IsDocument}
 use Rattle.text_lines.specs.FormStatements.{BeginsDocument}
-use Rattle.text_lines.specs.Kinds.{behind}
+use Rattle.text_lines.specs.Kinds.{keyed_line}
 use Rattle.text_lines.specs.Languages.{reading as reading_by_places}
 use Rattle.text_lines.specs.Lines.{Row, rows_of}
 use Rattle.edge_text.specs.declared.fault.LineKind.{LineKind}
@@ -34,11 +34,11 @@ IsReadAs {A} kind Is = (line : List ℕ) (said : A) → (kind line ≡ Some (Ok 
 
 -- of the lines `alpha`, `hypotheses`, `p`, `component` and `weights`
 pub record LinesOfNumbersAreRead : Type 0 where
-  pub alpha : IsReadAs (behind (codes "alpha") number) IsAlphaLine
-  pub names : IsReadAs (behind (codes "hypotheses") (λ words. Ok words)) IsNamesLine
-  pub p : IsReadAs (behind (codes "p") given) (λ line p. (values : List Ratio) × IsPLine line values × (p ≡ map Some values))
-  pub share : IsReadAs (behind (codes "component") number) IsShareLine
-  pub weights : IsReadAs (behind (codes "weights") numbers) IsWeightsLine
+  pub alpha : IsReadAs (keyed_line (codes "alpha") number) IsAlphaLine
+  pub names : IsReadAs (keyed_line (codes "hypotheses") (λ words. Ok words)) IsNamesLine
+  pub p : IsReadAs (keyed_line (codes "p") given) (λ line p. (values : List Ratio) × IsPLine line values × (p ≡ map Some values))
+  pub share : IsReadAs (keyed_line (codes "component") number) IsShareLine
+  pub weights : IsReadAs (keyed_line (codes "weights") numbers) IsWeightsLine
 
 -- of the lines `edge`
 abbrev pub EdgesAreRead : Type 0
@@ -46,11 +46,11 @@ EdgesAreRead = (names : Words) → IsReadAs (edge_line names) (IsEdgeLine names)
 
 -- of the lines `stages`, `spend`, `table` and `arrive`, for a hypothesis of this name
 pub record StageLinesAreRead (names : Words) (name : List ℕ) : Type 0 where
-  pub count : IsReadAs (behind (codes "stages") count) IsStagesLine
-  pub spend : IsReadAs (behind (codes "spend") (shares name)) (IsSpendLine name)
-  pub table : IsReadAs (behind (codes "table") (first_step name)) (IsTableLine name)
+  pub count : IsReadAs (keyed_line (codes "stages") count) IsStagesLine
+  pub spend : IsReadAs (keyed_line (codes "spend") (shares name)) (IsSpendLine name)
+  pub table : IsReadAs (keyed_line (codes "table") (first_step name)) (IsTableLine name)
   pub further : IsReadAs (further_line name) (IsTableLine name)
-  pub arrive : IsReadAs (behind (codes "arrive") (arrival names)) (IsArriveLine names)
+  pub arrive : IsReadAs (keyed_line (codes "arrive") (arrival names)) (IsArriveLine names)
 
 abbrev pub LinesOfStagesAreRead : Type 0
 LinesOfStagesAreRead = (names : Words) (name : List ℕ) → StageLinesAreRead names name

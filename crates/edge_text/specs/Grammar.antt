@@ -10,7 +10,7 @@ use Rattle.case_model.specs.declared.draft_edge.DraftEdge.{DraftEdge}
 use Rattle.case_model.specs.declared.draft_stages.Arrival.{Arrival}
 use Rattle.case_model.specs.declared.spend_step.SpendStep.{SpendStep}
 use Rattle.case_model.specs.Names.{position_of}
-use Rattle.text_lines.specs.Words.{words_of, behind_words}
+use Rattle.text_lines.specs.Words.{words_of, after_words}
 use Rattle.edge_expression.specs.EntryReading.{IsEntryText}
 
 -- the words of a line
@@ -56,7 +56,7 @@ pub record IsEdge (names : List (List ℕ)) (line : List ℕ) (words : Words) (e
   pub ends : HasThree words from to
   pub from_is : position_of from names ≡ Some edge.from
   pub to_is : position_of to names ≡ Some edge.to
-  pub says : IsEntryText (behind_words 3 line) edge.entry
+  pub says : IsEntryText (after_words 3 line) edge.entry
 
 -- `alpha` and a numeral of this value
 abbrev pub IsAlphaLine : List ℕ → Ratio → Type 0

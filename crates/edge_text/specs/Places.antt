@@ -14,22 +14,22 @@ use Rattle.edge_text.specs.Drafts.{named, with_p, with_component, edgeless, with
 use Rattle.field_core.specs.Answers.{and_then}
 use Rattle.text_lines.specs.Languages.{Language}
 use Rattle.edge_text.specs.Grammar.{Words, one}
-use Rattle.edge_text.specs.WordReading.{behind, number, numbers, given, edge, count, shares, first_step, step_of, step_words, arrival, found_or}
+use Rattle.edge_text.specs.WordReading.{on_keyword, number, numbers, given, edge, count, shares, first_step, step_of, step_words, arrival, found_or}
 
 -- a line at which the first block is required
 abbrev pub block : Draft → List ℕ → Result Place LineKind
 block d line =
-    behind (codes "component") line (λ words. and_then (number words) (λ share. Ok (Weights d share)))
-    (behind (codes "weights") line (λ words. and_then (numbers words) (λ weights. Ok (Edges false d (edgeless one weights))))
+    on_keyword (codes "component") line (λ words. and_then (number words) (λ share. Ok (Weights d share)))
+    (on_keyword (codes "weights") line (λ words. and_then (numbers words) (λ weights. Ok (Edges false d (edgeless one weights))))
     (Err Unexpected))
 
 -- the stages, after the last block
 abbrev pub stages : Draft → DraftComponent → List ℕ → Result Place LineKind
-stages d k line = behind (codes "stages") line (λ words. and_then (count words) (λ n. Ok (Spends (with_component d k) (counted n)))) (Err Unexpected)
+stages d k line = on_keyword (codes "stages") line (λ words. and_then (count words) (λ n. Ok (Spends (with_component d k) (counted n)))) (Err Unexpected)
 
 -- the next block if blocks have shares, or else the stages
 abbrev pub next_block : Bool → Draft → DraftComponent → List ℕ → Result Place LineKind
-next_block true d k line = behind (codes "component") line (λ words. and_then (number words) (λ share. Ok (Weights (with_component d k) share))) (stages d k line)
+next_block true d k line = on_keyword (codes "component") line (λ words. and_then (number words) (λ share. Ok (Weights (with_component d k) share))) (stages d k line)
 next_block false d k line = stages d k line
 
 -- the name of the hypothesis whose spend is due next, if one is left
@@ -39,10 +39,10 @@ due d s = slice_get d.names (length s.spend)
 -- what the hypothesis of this name spends; or, if no name is left, a p-value that arrived
 abbrev pub spend_or_arrive : Option (List ℕ) → Draft → DraftStages → List ℕ → Result Place LineKind
 spend_or_arrive (Some name) d s line =
-    behind (codes "spend") line (λ words. and_then (shares name words) (λ xs. Ok (Spends d (with_spend s (Shares xs)))))
-    (behind (codes "table") line (λ words. and_then (first_step name words) (λ t. Ok (Steps d s (t ∷ [])))) (Err Unexpected))
+    on_keyword (codes "spend") line (λ words. and_then (shares name words) (λ xs. Ok (Spends d (with_spend s (Shares xs)))))
+    (on_keyword (codes "table") line (λ words. and_then (first_step name words) (λ t. Ok (Steps d s (t ∷ [])))) (Err Unexpected))
 spend_or_arrive None d s line =
-    behind (codes "arrive") line (λ words. and_then (arrival d.names words) (λ a. Ok (Spends d (with_arrival s a)))) (Err Unexpected)
+    on_keyword (codes "arrive") line (λ words. and_then (arrival d.names words) (λ a. Ok (Spends d (with_arrival s a)))) (Err Unexpected)
 
 -- what the next hypothesis spends, or a p-value that arrived
 abbrev pub spends : Draft → DraftStages → List ℕ → Result Place LineKind
@@ -61,17 +61,17 @@ further d s steps words other =
 
 -- The place after a line, or what is wrong with the line.
 abbrev pub step : Place → List ℕ → Result Place LineKind
-step Alpha line = behind (codes "alpha") line (λ words. and_then (number words) (λ alpha. Ok (Names alpha))) (Err Unexpected)
-step (Names alpha) line = behind (codes "hypotheses") line (λ words. Ok (Values (named alpha words))) (Err Unexpected)
-step (Values d) line = behind (codes "p") line (λ words. and_then (given words) (λ p. Ok (Block (with_p d p)))) (block d line)
+step Alpha line = on_keyword (codes "alpha") line (λ words. and_then (number words) (λ alpha. Ok (Names alpha))) (Err Unexpected)
+step (Names alpha) line = on_keyword (codes "hypotheses") line (λ words. Ok (Values (named alpha words))) (Err Unexpected)
+step (Values d) line = on_keyword (codes "p") line (λ words. and_then (given words) (λ p. Ok (Block (with_p d p)))) (block d line)
 step (Block d) line = block d line
 step (Weights d share) line =
-    behind (codes "weights") line (λ words. and_then (numbers words) (λ weights. Ok (Edges true d (edgeless share weights)))) (Err Unexpected)
+    on_keyword (codes "weights") line (λ words. and_then (numbers words) (λ weights. Ok (Edges true d (edgeless share weights)))) (Err Unexpected)
 step (Edges shared d k) line =
-    behind (codes "edge") line (λ words. and_then (edge d.names line words) (λ e. Ok (Edges shared d (with_edge k e)))) (next_block shared d k line)
+    on_keyword (codes "edge") line (λ words. and_then (edge d.names line words) (λ e. Ok (Edges shared d (with_edge k e)))) (next_block shared d k line)
 step (Spends d s) line = spends d s line
 step (Steps d s steps) line =
-    behind (codes "table") line (λ words. further d s steps words (spends d (with_spend s (Table steps)) line)) (spends d (with_spend s (Table steps)) line)
+    on_keyword (codes "table") line (λ words. further d s steps words (spends d (with_spend s (Table steps)) line)) (spends d (with_spend s (Table steps)) line)
 
 -- the draft, if no name is left
 abbrev pub unless_due : Option (List ℕ) → Draft → Result Draft LineKind

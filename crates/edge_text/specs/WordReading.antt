@@ -9,7 +9,7 @@ use Rattle.case_model.specs.declared.draft_edge.DraftEdge.{DraftEdge}
 use Rattle.case_model.specs.declared.draft_stages.Arrival.{Arrival}
 use Rattle.case_model.specs.declared.spend_step.SpendStep.{SpendStep}
 use Rattle.case_model.specs.Names.{position_of}
-use Rattle.text_lines.specs.Words.{words_of, words_behind, behind_words, only_word, only_three}
+use Rattle.text_lines.specs.Words.{words_of, words_after, after_words, only_word, only_three}
 use Rattle.fraction.specs.Numerals.{numeral_of}
 use Rattle.entries.specs.Entries.{entry_of}
 use Rattle.edge_text.specs.declared.fault.LineKind.{LineKind}
@@ -22,8 +22,8 @@ on_words (Some words) f other = f words
 on_words None f other = other
 
 -- the reading of the words after this first word, or else of another line
-abbrev pub behind : {A Kind : Type 0} → List ℕ → List ℕ → (Words → Result A Kind) → Result A Kind → Result A Kind
-behind keyword line f other = on_words (words_behind keyword (words_of line)) f other
+abbrev pub on_keyword : {A Kind : Type 0} → List ℕ → List ℕ → (Words → Result A Kind) → Result A Kind → Result A Kind
+on_keyword keyword line f other = on_words (words_after keyword (words_of line)) f other
 
 -- the reading of what was found, or else this fault
 abbrev pub found_or : {A B : Type 0} → Option A → LineKind → (A → Result B LineKind) → Result B LineKind
@@ -69,7 +69,7 @@ edge names line words =
     found_or (ends_of words) WordCount (λ ends.
     found_or (position_of ends.0 names) UnknownName (λ from.
     found_or (position_of ends.1 names) UnknownName (λ to.
-    and_then (entry (behind_words 3 line)) (λ weight. Ok (record { from = from; to = to; entry = weight })))))
+    and_then (entry (after_words 3 line)) (λ weight. Ok (record { from = from; to = to; entry = weight })))))
 
 -- whether a byte is a digit, 0 to 9
 abbrev pub is_digit : ℕ → Bool

@@ -1,7 +1,7 @@
 //! The two ends of an edge, and its expression.
 ghost use Rattle.std.specs.Prelude.{◌≡◌, IfSome};
 ghost use Rattle.std.specs.Option.{option_map};
-ghost use Rattle.text_lines.specs.Words.{words_of, behind_words};
+ghost use Rattle.text_lines.specs.Words.{words_of, after_words};
 ghost use Rattle.edge_text.specs.WordReading.{ends_of};
 
 use text_lines::Words;
@@ -18,7 +18,7 @@ impl<'a> Ends<'a> {
     /// Returns two words and what follows them, if a word follows.
     pub fn of(mut words: Words<'a>) -> Option<Ends<'a>>
         ensures ends { option_map (λ ends. (ends.from.now, ends.to.now)) result ≡ ends_of (words_of words.entry) }
-        ensures rest { IfSome result (λ ends. ends.expression.now ≡ behind_words 2 words.entry) }
+        ensures rest { IfSome result (λ ends. ends.expression.now ≡ after_words 2 words.entry) }
     {
         let from = words.next()?;
         let to = words.next()?;

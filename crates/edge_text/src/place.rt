@@ -108,7 +108,7 @@ impl Place {
 fn alpha(line: &Line) -> Result<Place, TextFault>
     ensures { Gives line.now.number (step at.Alpha line.now.text.now) result }
 {
-    let Some(words) = line.behind(b"alpha") else {
+    let Some(words) = line.words_after(b"alpha") else {
         return Err(unexpected(line));
     };
     Ok(Place::Names(rules::number(line, words)?))
@@ -118,7 +118,7 @@ fn alpha(line: &Line) -> Result<Place, TextFault>
 fn names(alloc: Global, alpha: Fraction, line: &Line) -> Result<Place, TextFault>
     ensures { Gives line.now.number (step (at.Names alpha) line.now.text.now) result }
 {
-    let Some(words) = line.behind(b"hypotheses") else {
+    let Some(words) = line.words_after(b"hypotheses") else {
         return Err(unexpected(line));
     };
     let names = rules::copies(alloc, words)?;
@@ -129,7 +129,7 @@ fn names(alloc: Global, alpha: Fraction, line: &Line) -> Result<Place, TextFault
 fn values(alloc: Global, draft: SoFar, line: &Line) -> Result<Place, TextFault>
     ensures { Gives line.now.number (step (at.Values draft) line.now.text.now) result }
 {
-    let Some(words) = line.behind(b"p") else {
+    let Some(words) = line.words_after(b"p") else {
         return block(alloc, draft, line);
     };
     let p = rules::given(alloc, line, words)?;
@@ -140,11 +140,11 @@ fn values(alloc: Global, draft: SoFar, line: &Line) -> Result<Place, TextFault>
 fn block(alloc: Global, draft: SoFar, line: &Line) -> Result<Place, TextFault>
     ensures { Gives line.now.number (block draft line.now.text.now) result }
 {
-    if let Some(words) = line.behind(b"component") {
+    if let Some(words) = line.words_after(b"component") {
         let share = rules::number(line, words)?;
         return Ok(Place::Weights(draft, share));
     }
-    let Some(words) = line.behind(b"weights") else {
+    let Some(words) = line.words_after(b"weights") else {
         return Err(unexpected(line));
     };
     let weights = rules::numbers(alloc, line, words)?;
@@ -156,7 +156,7 @@ fn block(alloc: Global, draft: SoFar, line: &Line) -> Result<Place, TextFault>
 fn weights(alloc: Global, draft: SoFar, share: Fraction, line: &Line) -> Result<Place, TextFault>
     ensures { Gives line.now.number (step (at.Weights draft share) line.now.text.now) result }
 {
-    let Some(words) = line.behind(b"weights") else {
+    let Some(words) = line.words_after(b"weights") else {
         return Err(unexpected(line));
     };
     let weights = rules::numbers(alloc, line, words)?;
@@ -174,7 +174,7 @@ fn edges(
 ) -> Result<Place, TextFault>
     ensures { Gives line.now.number (step (at.Edges shared draft component) line.now.text.now) result }
 {
-    let Some(words) = line.behind(b"edge") else {
+    let Some(words) = line.words_after(b"edge") else {
         return next_block(alloc, shared, draft, component, line);
     };
     let edge = rules::edge(line, words, &draft)?;
@@ -195,7 +195,7 @@ fn next_block(
     if !shared {
         return stages(alloc, draft, component, line);
     }
-    let Some(words) = line.behind(b"component") else {
+    let Some(words) = line.words_after(b"component") else {
         return stages(alloc, draft, component, line);
     };
     let share = rules::number(line, words)?;
@@ -222,7 +222,7 @@ fn stages(
 ) -> Result<Place, TextFault>
     ensures { Gives line.now.number (stages draft component line.now.text.now) result }
 {
-    let Some(words) = line.behind(b"stages") else {
+    let Some(words) = line.words_after(b"stages") else {
         return Err(unexpected(line));
     };
     let count = rules::count(line, words)?;
@@ -255,12 +255,12 @@ fn spends(alloc: Global, draft: SoFar, stages: DraftStages, line: &Line) -> Resu
     let Some(name) = draft.name(stages.spend.len()) else {
         return arrive(draft, stages, line);
     };
-    if let Some(words) = line.behind(b"spend") {
+    if let Some(words) = line.words_after(b"spend") {
         let shares = rules::shares(alloc, line, words, name)?;
         let stages = with_spend(stages, Spend::Shares(shares))?;
         return Ok(Place::Spends(draft, stages));
     }
-    let Some(words) = line.behind(b"table") else {
+    let Some(words) = line.words_after(b"table") else {
         return Err(unexpected(line));
     };
     let steps = first_steps(alloc, line, words, name)?;
@@ -286,7 +286,7 @@ fn first_steps(
 fn arrive(draft: SoFar, mut stages: DraftStages, line: &Line) -> Result<Place, TextFault>
     ensures { Gives line.now.number (spend_or_arrive None draft stages line.now.text.now) result }
 {
-    let Some(words) = line.behind(b"arrive") else {
+    let Some(words) = line.words_after(b"arrive") else {
         return Err(unexpected(line));
     };
     let arrival = rules::arrival(line, words, &draft)?;
@@ -304,7 +304,7 @@ fn steps_on(
 ) -> Result<Place, TextFault>
     ensures { Gives line.now.number (step (at.Steps draft stages steps) line.now.text.now) result }
 {
-    let Some(words) = line.behind(b"table") else {
+    let Some(words) = line.words_after(b"table") else {
         return behind_table(alloc, draft, stages, steps, line);
     };
     further(alloc, draft, stages, steps, line, words)

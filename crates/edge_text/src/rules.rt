@@ -1,6 +1,6 @@
 //! What the words of lines denote.
 ghost use Rattle.std.specs.Prelude.{◌≡◌, Some, map, IfOk};
-ghost use Rattle.text_lines.specs.Words.{words_of, behind_word};
+ghost use Rattle.text_lines.specs.Words.{words_of, after_word};
 ghost use Rattle.edge_text.specs.View.{Gives};
 ghost use Rattle.edge_text.specs.WordReading.{numeral, number, numbers, given, entry, edge, whole, count};
 ghost use Rattle.edge_text.specs.WordReading.{shares, first_step, step_of, arrival};
@@ -92,7 +92,7 @@ fn entry(line: &Line, expression: &[u8]) -> Result<Entry, TextFault>
 
 /// Returns the edge that the words after the first word of a line denote.
 pub fn edge(line: &Line, words: Words, draft: &SoFar) -> Result<DraftEdge, TextFault>
-    requires { words ≡ behind_word line.now.text.now }
+    requires { words ≡ after_word line.now.text.now }
     ensures { Gives line.now.number (edge draft.now.names line.now.text.now (words_of words.entry)) result }
 {
     let Some(ends) = Ends::of(words) else {

@@ -11,13 +11,13 @@ use Rattle.field_core.specs.declared.place.WideAt.{WideAt}
 use Rattle.field_core.specs.Kind.{Parts, Kind}
 use Rattle.field_core.specs.Steps.{◌>>=◌, in_component, each_below}
 use Rattle.field_core.proofs.Fills.{each_fault}
-use Rattle.removal.specs.StoredGraph.{StoredGraph, is_live}
+use Rattle.removal.specs.StoredGraph.{StoredGraph, is_live, no_graph}
 use Rattle.entangled.specs.Bundled.{Bundled, IsBundle, size, removed, is_live as is_live_in}
 use Rattle.evidence_check.specs.Evidence.{others}
 use Rattle.evidence_check.specs.EvidenceParts.{KeepParts, numbers_at}
 use Rattle.evidence.specs.FlowTables.{Tables, row, if_wanted, new_tables}
 use Rattle.evidence.specs.FlowRun.{WideStep, RunState, FlowRun, at_step, has_some, recorded, kept_exits, all_tables, flow_step, flow_run, opening_state}
-use Rattle.evidence.specs.FlowRun.{evidence_run, graph_at, tables_at, no_graph, no_tables}
+use Rattle.evidence.specs.FlowRun.{evidence_run, graph_at, tables_at, no_tables}
 use Rattle.evidence.specs.TablesView.{tables_of}
 use Rattle.evidence.specs.declared.tables.Tables.{Tables as KeptTables}
 use Rattle.field_core.specs.declared.fault.Fault.{Fault}

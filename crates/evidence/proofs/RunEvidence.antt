@@ -33,7 +33,7 @@ use Rattle.case_model.proofs.LegalSteps.{after_append}
 use Rattle.case_model.proofs.ClosedTestLaws.{legal_passes, passes_legal}
 use Rattle.case_model.proofs.RejectionOrders.{left_append, left_not_listed, not_listed_left, order_distinct}
 use Rattle.field_core.specs.Steps.{◌>>=◌}
-use Rattle.removal.specs.StoredGraph.{StoredGraph}
+use Rattle.removal.specs.StoredGraph.{StoredGraph, no_graph}
 use Rattle.removal.specs.Exactness.{RemovesExactly}
 use Rattle.removal.specs.InTurn.{removed_in_turn}
 use Rattle.field_core.specs.Laws.Prefixes.{bind_ok, ok_same, each_get, each_length}
@@ -48,7 +48,7 @@ use Rattle.evidence_check.proofs.Hypotheses.{one_longer}
 use Rattle.evidence_check.proofs.Places.{place_below, place_listed, order_in}
 use Rattle.evidence_check.proofs.Vectors.{back_dot, dot_back}
 use Rattle.evidence.specs.FlowTables.{Tables, row, if_wanted, first_tables}
-use Rattle.evidence.specs.FlowRun.{at_step, RunState, FlowRun, has_some, flow_step, no_graph, no_tables, graph_at, tables_at, recorded, kept_exits, all_tables}
+use Rattle.evidence.specs.FlowRun.{at_step, RunState, FlowRun, has_some, flow_step, no_tables, graph_at, tables_at, recorded, kept_exits, all_tables}
 use Rattle.evidence.specs.FlowRun.{flow_run}
 use Rattle.evidence_check.specs.EvidenceParts.{numbers_at, AreFull, FlowsFit, part_at, step_values, keep_values}
 use Rattle.evidence.proofs.Lists.{all_mapped}

@@ -22,7 +22,7 @@ use Rattle.evidence.specs.FlowTables.{if_wanted}
 use Rattle.evidence.specs.FlowRun.{RunState, at_step, all_tables, flow_step}
 use Rattle.evidence.specs.FlowStatements.{IsOpened}
 use Rattle.evidence.proofs.RunEvidence.{at_step_ok, turn_next}
-use Rattle.evidence.proofs.RunSteps.{order_take, order_at}
+use Rattle.removal.proofs.Orders.{order_take, order_at}
 
 -- what a step did
 pub record StepDid {S : Type 0} (K : Kind) (graph : S → StoredGraph) (removal : S → ℕ → Result S Wide) (is_kept : Bool) (earlier : List ℕ) (j : ℕ)

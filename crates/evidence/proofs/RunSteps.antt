@@ -1,5 +1,5 @@
 -- The loop of a run, step by step.
-use Rattle.std.proofs.Common.{◌≡◌, ◌⊎◌, inl, inr, add-one, refl, sym, ap, ◌∙◌, ℕ, zero, suc, ◌+◌, ◌<◌, ◌≤◌, ◌==◌, Bool}
+use Rattle.std.proofs.Common.{◌≡◌, ◌⊎◌, inl, inr, add-one, refl, sym, ap, ◌∙◌, ℕ, ◌+◌, ◌<◌, ◌≤◌, ◌==◌, Bool}
 use Rattle.std.proofs.Common.{true, false, not, List, [], ◌∷◌, ◌++◌, Result, Ok, Err, length, get_or, take, drop, arith}
 use Rattle.std.proofs.lemmas.List.{take_more, append_assoc}
 use Rattle.std.proofs.lemmas.Bool.Decides.{nat_tests}
@@ -7,23 +7,11 @@ use Rattle.evidence_check.proofs.StepsAnswers.{drop_here, drop_end}
 use Rattle.field_core.specs.declared.place.Wide.{Wide}
 use Rattle.field_core.specs.Kind.{Kind, ok_map}
 use Rattle.field_core.specs.Steps.{◌>>=◌}
-use Rattle.field_core.specs.Sets.{IsIn, dropping}
-use Rattle.field_core.specs.Runs.{IsOrder, left_after}
 use Rattle.removal.specs.StoredGraph.{StoredGraph}
 use Rattle.evidence_check.specs.EvidenceParts.{StepParts}
 use Rattle.evidence.specs.FlowRun.{WideStep, RunState, FlowRun, has_some, recorded, flow_step, flow_run}
 
 -- ---- a place of an order
-
-pub order_take : (m : ℕ) (js : List ℕ) (I : ℕ → Bool) (s : ℕ) → IsOrder m I js → IsOrder m I (take s js)
-order_take m js I zero o = tt
-order_take m [] I (suc s) o = tt
-order_take m (j ∷ js) I (suc s) o = (o.0, order_take m js (dropping j I) s o.1)
-
-pub order_at : (m : ℕ) (js : List ℕ) (I : ℕ → Bool) (s : ℕ) → IsOrder m I js → s < length js → IsIn m (left_after I (take s js)) (get_or js s 0)
-order_at m [] I s o p = absurd (omega arith)
-order_at m (j ∷ js) I zero o p = o.0
-order_at m (j ∷ js) I (suc s) o p = order_at m js (dropping j I) s o.1 (omega arith)
 
 pub drop_at : (js : List ℕ) (s : ℕ) → s < length js → drop s js ≡ get_or js s 0 ∷ drop (s + 1) js
 drop_at js s p = drop_here js s 0 p ∙ ap (λ n. get_or js s 0 ∷ drop n js) (sym (add-one s))

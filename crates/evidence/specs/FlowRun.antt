@@ -5,7 +5,7 @@ use Rattle.field_core.specs.declared.place.Wide.{Wide}
 use Rattle.field_core.specs.declared.place.WideAt.{WideAt}
 use Rattle.field_core.specs.Kind.{Kind}
 use Rattle.field_core.specs.Steps.{◌>>=◌, in_component, each_below}
-use Rattle.removal.specs.StoredGraph.{StoredGraph}
+use Rattle.removal.specs.StoredGraph.{StoredGraph, no_graph}
 use Rattle.entangled.specs.Bundled.{Bundled, size, removed}
 use Rattle.evidence_check.specs.Evidence.{others}
 use Rattle.evidence_check.specs.EvidenceParts.{StepParts, KeepParts, numbers_at}
@@ -35,10 +35,6 @@ pub record FlowRun : Type 0 where
 pub record WrittenEvidence : Type 0 where
   pub steps : List StepParts
   pub keeps : List KeepParts
-
--- (stands for a graph past the last one)
-abbrev pub no_graph : StoredGraph
-no_graph = record { live = []; weights = []; edges = [] }
 
 -- (stands for tables past the last ones)
 abbrev pub no_tables : Tables

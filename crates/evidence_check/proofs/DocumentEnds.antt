@@ -7,9 +7,9 @@ use Rattle.std.specs.Str.{bytes_eq}
 use Rattle.std.specs.Option.{option_map}
 use Rattle.std.proofs.lemmas.Slice.Eq.{bytes_eq-Decides}
 use Rattle.text_lines.specs.Lines.{rows_of, end_of}
-use Rattle.text_lines.specs.Words.{words_behind}
+use Rattle.text_lines.specs.Words.{words_after}
 use Rattle.text_lines.specs.Forms.{Line, Then, Many, Seen, Begins, Lacks, Is, words_seen}
-use Rattle.text_lines.specs.Kinds.{words_after, each_of}
+use Rattle.text_lines.specs.Kinds.{keyed_words, each_of}
 use Rattle.text_lines.proofs.Keywords.{keyword_found}
 use Rattle.text_lines.proofs.FormEnds.{Whole, Leads, Can, can_then, can_many, Stop}
 use Rattle.text_lines.proofs.FormFaults.{none_is_fault as none_is}
@@ -44,10 +44,10 @@ line words = record { number = 0; line = words }
 
 -- a line that begins so is not a step
 other : {A : Type 0} (F : Frame) (first : List ℕ) (f : Words → Result A ProofKind) (words : Words) (a : A)
-    → ((rest : Words) → step_line F (first ∷ rest) ≡ None) → words_after first f words ≡ Some (Ok a) → step_line F words ≡ None
-other {A} F first f words a h e = by (words_behind first words) refl e
+    → ((rest : Words) → step_line F (first ∷ rest) ≡ None) → keyed_words first f words ≡ Some (Ok a) → step_line F words ≡ None
+other {A} F first f words a h e = by (words_after first words) refl e
   where
-    by : (o : Option Words) → o ≡ words_behind first words → ◌≡◌ {A = Option (Result A ProofKind)} (option_map f o) (Some (Ok a)) → step_line F words ≡ None
+    by : (o : Option Words) → o ≡ words_after first words → ◌≡◌ {A = Option (Result A ProofKind)} (option_map f o) (Some (Ok a)) → step_line F words ≡ None
     by (Some rest) k m = subst (λ ws. step_line F ws ≡ None) (sym (keyword_found first words rest k)) (h rest)
     by None k m = absurd (cc m)
 

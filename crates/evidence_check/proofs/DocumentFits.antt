@@ -12,9 +12,9 @@ use Rattle.std.proofs.lemmas.List.FromFn.{length-range_with_len, get_or-range_wi
 use Rattle.std.proofs.lemmas.List.Quantifiers.{position-Some}
 use Rattle.field_core.specs.Kind.{Parts}
 use Rattle.field_core.specs.Sets.{set_of}
-use Rattle.text_lines.specs.Words.{words_behind, only_word, only_three}
+use Rattle.text_lines.specs.Words.{words_after, only_word, only_three}
 use Rattle.text_lines.specs.Forms.{Line, Seen, Is, AreMany, IsDocument}
-use Rattle.text_lines.specs.Kinds.{words_after}
+use Rattle.text_lines.specs.Kinds.{keyed_words}
 use Rattle.text_lines.proofs.EachSaid.{Pairs, pairs_length, pairs_all, pairs_map, each_said}
 use Rattle.case_model.specs.Content.{Content}
 use Rattle.case_numbers.specs.Numbers.{Numbers}
@@ -43,9 +43,9 @@ if_ok false r kind b h = absurd (cc h)
 same_said : {B : Type 0} (x y : B) → ◌≡◌ {A = Result B ProofKind} (Ok x) (Ok y) → y ≡ x
 same_said x y e = cc e
 
-key_ok : {A : Type 0} (first : List ℕ) (f : Words → Result A ProofKind) (ws : Words) (a : A) → ◌≡◌ {A = Option (Result A ProofKind)} (words_after first f ws) (Some (Ok a))
+key_ok : {A : Type 0} (first : List ℕ) (f : Words → Result A ProofKind) (ws : Words) (a : A) → ◌≡◌ {A = Option (Result A ProofKind)} (keyed_words first f ws) (Some (Ok a))
     → (rest : Words) × (f rest ≡ Ok a)
-key_ok {A} first f ws a h = by (words_behind first ws) h
+key_ok {A} first f ws a h = by (words_after first ws) h
   where
     by : (o : Option Words) → ◌≡◌ {A = Option (Result A ProofKind)} (option_map f o) (Some (Ok a)) → (rest : Words) × (f rest ≡ Ok a)
     by (Some rest) h = (rest, let k : f rest ≡ Ok a = cc h in k)

@@ -5,9 +5,9 @@ use Rattle.std.specs.Fmt.{decimal}
 use Rattle.std.specs.List.{range_with_len}
 use Rattle.std.specs.Option.{option_map}
 use Rattle.std.specs.Str.{bytes_eq}
-use Rattle.text_lines.specs.Words.{words_behind, only_word, only_three}
+use Rattle.text_lines.specs.Words.{words_after, only_word, only_three}
 use Rattle.text_lines.specs.Forms.{Line}
-use Rattle.text_lines.specs.Kinds.{words_after, each_after}
+use Rattle.text_lines.specs.Kinds.{keyed_words, each_after}
 use Rattle.text_lines.proofs.FaultKinds.{LeafRuns, Runs}
 use Rattle.evidence_check.specs.declared.fault.ProofKind.{ProofKind}
 use Rattle.evidence_check.specs.declared.fault.ProofKind.TheVariants.{Unexpected, Ended, WordCount, Version, UnknownName, Number}
@@ -29,8 +29,8 @@ choose : {A : Type 0} (b : Bool) (x y : Result A ProofKind) → Fine x → Fine 
 choose true x y h k = h
 choose false x y h k = k
 
-key : {A : Type 0} (first : List ℕ) (f : Words → Result A ProofKind) → ((ws : Words) → Fine (f ws)) → LeafRuns kinds (words_after first f)
-key {A} first f h line = by (words_behind first line)
+key : {A : Type 0} (first : List ℕ) (f : Words → Result A ProofKind) → ((ws : Words) → Fine (f ws)) → LeafRuns kinds (keyed_words first f)
+key {A} first f h line = by (words_after first line)
   where
     some : (r : Result A ProofKind) → Fine r → ◌≢◌ {A = Option (Result A ProofKind)} (Some r) (Some (Err Ended))
     some r n e = n (let k : r ≡ Err Ended = cc in k)

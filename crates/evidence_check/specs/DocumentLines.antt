@@ -5,7 +5,7 @@ use Rattle.std.specs.Str.{bytes_eq}
 use Rattle.field_core.specs.Kind.{Parts}
 use Rattle.text_lines.specs.Words.{only_word, only_three}
 use Rattle.text_lines.specs.Forms.{Kinds, Leaf}
-use Rattle.text_lines.specs.Kinds.{words_after}
+use Rattle.text_lines.specs.Kinds.{keyed_words}
 use Rattle.evidence_check.specs.declared.fault.ProofKind.{ProofKind}
 use Rattle.evidence_check.specs.declared.fault.ProofKind.TheVariants.{Unexpected, Ended, WordCount, Version, UnknownName, FlowPlace, ExitPlace, Number}
 use Rattle.evidence_check.specs.declared.quantity.Quantity.{Quantity}
@@ -48,7 +48,7 @@ found_or None kind f = Err kind
 
 -- a line of this first word, and of one word after it
 abbrev pub one_after : {A : Type 0} → List ℕ → (List ℕ → Result A ProofKind) → Leaf Words ProofKind A
-one_after first f = words_after first (λ rest. found_or (only_word rest) WordCount f)
+one_after first f = keyed_words first (λ rest. found_or (only_word rest) WordCount f)
 
 -- the line of the version
 abbrev pub version_line : Leaf Words ProofKind ℕ
@@ -60,7 +60,7 @@ step_line F = one_after (codes "step") (λ name. found_or (F.position name) Unkn
 
 -- the line of a number of this component and this hypothesis
 abbrev pub number_line : Frame → Quantity → ℕ → ℕ → Leaf Words ProofKind Parts
-number_line F q c h = words_after (keyword q) (λ rest. found_or (only_three rest) WordCount (λ ws.
+number_line F q c h = keyed_words (keyword q) (λ rest. found_or (only_three rest) WordCount (λ ws.
     if bytes_eq ws.0 (decimal (c + 1)) && bytes_eq ws.1 (F.name h) then found_or (F.number ws.2) Number (λ x. Ok x) else Err (place_fault q)))
 
 -- the line of a keep of this hypothesis
@@ -74,7 +74,7 @@ nothing (w ∷ ws) = Err WordCount
 
 -- the line of the end
 abbrev pub end_line : Leaf Words ProofKind (Unit {0})
-end_line = words_after (codes "end") nothing
+end_line = keyed_words (codes "end") nothing
 
 -- ---- the words of a line
 

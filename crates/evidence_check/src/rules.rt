@@ -20,7 +20,7 @@ use text_lines::Line;
 pub fn version(line: &Line) -> Result<u8, ProofKind>
     ensures { result ≡ expected kinds (version_line (words_of line.now.text.now)) }
 {
-    let Some(words) = line.behind(b"evidence") else {
+    let Some(words) = line.words_after(b"evidence") else {
         return Err(ProofKind::Unexpected);
     };
     let Some(word) = words.one() else {
@@ -41,7 +41,7 @@ pub fn step(line: &Line, case: &Case) -> Result<Option<usize>, ProofKind>
         → result ≡ if_any (step_line T (words_of line.now.text.now)) }
     ensures known { IfOk result (λ found. IfSome found (λ j. j < length (content case.now).names)) }
 {
-    let Some(words) = line.behind(b"step") else {
+    let Some(words) = line.words_after(b"step") else {
         return Ok(None);
     };
     let Some(name) = words.one() else {
@@ -73,7 +73,7 @@ pub fn number<F: EvidenceNumber>(
         → ((text : Seq ℕ) → T.number text ≡ number_in_text F.numbers text)
         → ok_map F.parts result ≡ expected kinds (number_line T quantity c h (words_of line.now.text.now)) }
 {
-    let Some(words) = line.behind(keyword(quantity)) else {
+    let Some(words) = line.words_after(keyword(quantity)) else {
         return Err(ProofKind::Unexpected);
     };
     let Some((component, hypothesis, text)) = words.three() else {
@@ -93,7 +93,7 @@ pub fn keep(line: &Line, name: &[u8]) -> Result<(), ProofKind>
     ensures said { (T : Frame) (h : ℕ) → T.name h ≡ name.now
         → ok_map (λ _. h) result ≡ expected kinds (keep_line T h (words_of line.now.text.now)) }
 {
-    let Some(words) = line.behind(b"keep") else {
+    let Some(words) = line.words_after(b"keep") else {
         return Err(ProofKind::Unexpected);
     };
     let Some(word) = words.one() else {
@@ -110,7 +110,7 @@ pub fn keep(line: &Line, name: &[u8]) -> Result<(), ProofKind>
 pub fn end(line: &Line) -> Result<(), ProofKind>
     ensures { result ≡ expected kinds (end_line (words_of line.now.text.now)) }
 {
-    let Some(mut words) = line.behind(b"end") else {
+    let Some(mut words) = line.words_after(b"end") else {
         return Err(ProofKind::Unexpected);
     };
     match words.next() {

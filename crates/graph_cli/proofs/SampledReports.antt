@@ -8,7 +8,7 @@ use Rattle.case_model.specs.Content.{Content, content_of}
 use Rattle.case_model.specs.declared.fault.CaseFault.{CaseFault}
 use Rattle.case_model.specs.Validity.{IsValidContent}
 use Rattle.catalogue.specs.declared.fault.CatalogueFault.{CatalogueFault}
-use Rattle.catalogue.specs.Makings.{made_unless, made, behind, seed_fault, sample_case}
+use Rattle.catalogue.specs.Makings.{made_unless, made, unless, seed_fault, sample_case}
 use Rattle.catalogue.specs.Quotients.{quotient}
 use Rattle.catalogue.specs.Samples.{sample_graph, sample_p_values}
 use Rattle.catalogue.specs.Sizes.{size_fault}
@@ -38,7 +38,7 @@ made_valid G alpha ps None c f e = let d = draft_of G alpha ps in
 made_valid G alpha ps (Some fault) c f e = absurd (not_made _ c e)
 
 -- nothing stands before what is made
-behind_made : (fault : Option CatalogueFault) (r : Result Content CatalogueFault) (c : Content) → behind fault r ≡ Ok c → r ≡ Ok c
+behind_made : (fault : Option CatalogueFault) (r : Result Content CatalogueFault) (c : Content) → unless fault r ≡ Ok c → r ≡ Ok c
 behind_made None r c e = e
 behind_made (Some fault) r c e = absurd (not_made fault c e)
 

@@ -6,10 +6,10 @@ use Rattle.field_core.specs.Sums.{unit, dot}
 use Rattle.field_core.specs.Graph.{Graph, IsValid}
 use Rattle.field_core.specs.Sets.{IsIn, HaveSameMembers, whole}
 use Rattle.field_core.specs.Flows.{into, IsFlow}
-use Rattle.field_core.specs.Runs.{Flows, Exits, IsOrder, left_after, after, through}
+use Rattle.field_core.specs.Runs.{Exits, IsOrder, left_after, after, through}
 use Rattle.field_core.proofs.Dots.{unit_dot, dot_exit}
 use Rattle.field_core.proofs.Duality.{weak_duality}
-use Rattle.field_core.proofs.FieldLaws.{ring, zero_add, one_mul, mul_comm}
+use Rattle.field_core.proofs.FieldLaws.{ring, mul_comm}
 use Rattle.field_core.proofs.Live.{true_or_false}
 use Rattle.field_core.proofs.Orders.{le_of_eq, le_eq, eq_le, add_nonneg}
 use Rattle.field_core.proofs.SumLaws.{unit_same, unit_other, unit_nonneg}

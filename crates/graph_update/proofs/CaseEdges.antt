@@ -12,9 +12,8 @@ use Rattle.case_model.specs.Content.{Content, component_at}
 use Rattle.case_model.specs.Validity.{IsValidContent}
 use Rattle.case_numbers.specs.Numbers.{Numbers, numbers_of, kind_of, IsStoredIn}
 use Rattle.case_numbers.proofs.Components.{can_run}
-use Rattle.removal.specs.StoredGraph.{StoredGraph, edge}
+use Rattle.removal.specs.StoredGraph.{edge, no_graph}
 use Rattle.removal.specs.ByValue.{graph_of}
-use Rattle.removal.specs.InTurn.{removed_in_turn}
 use Rattle.removal.specs.Laws.Seen.{edge_in}
 use Rattle.removal.proofs.WeightsLeft.{Stands, in_turn}
 use Rattle.entangled.specs.States.{state_in, graph_in, IsProperIn, removal_in}
@@ -23,7 +22,6 @@ use Rattle.entangled.specs.CaseAfter.{case_after}
 use Rattle.entangled.proofs.CaseStates.{no_state, IsStateOf, AreStatesOf, states_are, removal_exact}
 use Rattle.entangled.proofs.CaseSteps.{IsRunOf, is_run}
 use Rattle.entangled.proofs.EachNet.{IsLater, run_says}
-use Rattle.graph_update.specs.UpdateText.{no_graph}
 use Rattle.graph_update.specs.UpdateLaws.{edge_value, EdgesAgreeInEveryOrder}
 use Rattle.graph_update.proofs.AnyEdges.{edges_same}
 

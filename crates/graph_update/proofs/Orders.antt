@@ -1,26 +1,15 @@
 -- Positions, each once.
-use Rattle.std.proofs.Common.{◌≡◌, refl, sym, ap, ◌∙◌, subst, ℕ, zero, suc, ◌+◌, ◌<◌, ◌≤◌, ◌==◌, Bool, true, false, ◌||◌, List, [], ◌∷◌, ◌++◌}
+use Rattle.std.proofs.Common.{◌≡◌, refl, sym, ap, ◌∙◌, subst, ℕ, ◌+◌, ◌<◌, ◌≤◌, ◌==◌, true, false, ◌||◌, List, [], ◌∷◌, ◌++◌}
 use Rattle.std.proofs.Common.{length, get_or, take, arith}
 use Rattle.std.specs.Prelude.{IsTrue}
 use Rattle.std.specs.List.{list_any}
 use Rattle.std.proofs.lemmas.List.{take_more}
 use Rattle.std.proofs.lemmas.Bool.Decides.{nat_tests}
-use Rattle.field_core.specs.Sets.{IsIn, dropping, whole, set_of}
+use Rattle.field_core.specs.Sets.{IsIn, whole, set_of}
 use Rattle.field_core.specs.Runs.{IsOrder, left_after}
+use Rattle.removal.proofs.Orders.{order_at}
 use Rattle.case_model.proofs.LegalSteps.{removals_next}
 use Rattle.case_model.proofs.RejectionOrders.{left_not_listed, not_listed_left}
-
--- the first of an order
-pub order_take : (m : ℕ) (js : List ℕ) (I : ℕ → Bool) (s : ℕ) → IsOrder m I js → IsOrder m I (take s js)
-order_take m js I zero o = tt
-order_take m [] I (suc s) o = tt
-order_take m (j ∷ js) I (suc s) o = (o.0, order_take m js (dropping j I) s o.1)
-
--- the one at a place is among those that are left before it
-pub order_at : (m : ℕ) (js : List ℕ) (I : ℕ → Bool) (s : ℕ) → IsOrder m I js → s < length js → IsIn m (left_after I (take s js)) (get_or js s 0)
-order_at m [] I s o p = absurd (omega arith)
-order_at m (j ∷ js) I zero o p = o.0
-order_at m (j ∷ js) I (suc s) o p = order_at m js (dropping j I) s o.1 (omega arith)
 
 same_test : (i j : ℕ) → (i == j) ≡ (j == i)
 same_test i j = grind (arith, nat_tests)

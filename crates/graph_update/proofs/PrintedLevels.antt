@@ -1,24 +1,21 @@
 -- The levels that a text says.
-use Rattle.std.proofs.Common.{◌≡◌, refl, sym, ap, ap₂, subst, ◌∙◌, inl, inr, ℕ, zero, suc, ◌+◌, ◌<◌, Bool, true, List, [], ◌∷◌, ◌++◌, length, add-one, arith, Ok}
+use Rattle.std.proofs.Common.{◌≡◌, refl, sym, ap, ap₂, ◌∙◌, inl, inr, ℕ, zero, suc, ◌+◌, ◌<◌, Bool, true, List, [], ◌∷◌, ◌++◌, length, add-one, arith}
 use Rattle.std.specs.List.{flat_map, range_with_len}
 use Rattle.eps_quotient.proofs.LimitOfNorm.{same_lowest}
 use Rattle.field_core.specs.Runs.{left_after}
 use Rattle.field_core.specs.Sets.{IsIn, HaveSameMembers, whole}
-use Rattle.field_core.specs.Terms.{Terms, IsReduced}
+use Rattle.field_core.specs.Terms.{Terms}
 use Rattle.field_core.proofs.Live.{true_or_false}
 use Rattle.fraction.specs.Spelling.{spelling}
 use Rattle.text_lines.specs.Spelling.{text_of}
 use Rattle.case_model.specs.Content.{Content, entangled}
-use Rattle.case_model.specs.IntersectionWeight.{IsIntersectionWeight}
-use Rattle.case_model.specs.Sums.{number}
 use Rattle.case_model.specs.Validity.{IsValidContent}
 use Rattle.case_model.proofs.IntersectionLaws.{intersection_unique, intersection_same}
 use Rattle.entangled.specs.CaseRun.{CaseState, is_live_in_case, case_level}
-use Rattle.entangled.specs.CaseAfter.{case_after}
 use Rattle.entangled.proofs.CaseLevels.{case_levels, case_live, case_lowest}
 use Rattle.graph_update.specs.UpdateText.{Words, level_words, level_lines, levels_lines, components_lines, update_lines, update_text, end_words}
 use Rattle.graph_update.specs.Updates.{IsUpdate}
-use Rattle.graph_update.specs.UpdateLaws.{SaysWeights, HaveSameLevels, UpdatesSayWeights, LevelsAgreeInEveryOrder}
+use Rattle.graph_update.specs.UpdateLaws.{UpdatesSayWeights, LevelsAgreeInEveryOrder}
 use Rattle.graph_update.proofs.Lines.{flat_map-more}
 use Rattle.graph_update.proofs.TextSteps.{level_removed, level_put}
 

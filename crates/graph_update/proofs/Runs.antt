@@ -1,5 +1,5 @@
 -- The written run of a case along a list of positions.
-use Rattle.std.proofs.Common.{◌≡◌, refl, sym, ap, ◌∙◌, inl, inr, ℕ, ◌+◌, ◌<◌, ◌≤◌, true, List, [], ◌∷◌, ◌++◌, length, get_or, take, Ok, Err, arith}
+use Rattle.std.proofs.Common.{◌≡◌, sym, ap, ◌∙◌, inl, inr, ℕ, ◌+◌, ◌<◌, ◌≤◌, true, List, [], ◌∷◌, ◌++◌, length, get_or, take, Ok, Err, arith}
 use Rattle.std.proofs.lemmas.Bool.{cases_eq}
 use Rattle.std.proofs.lemmas.List.{take_more, take_all}
 use Rattle.field_core.specs.Sets.{whole}
@@ -18,7 +18,7 @@ use Rattle.field_core.specs.declared.fault.Fault.TheVariants as openings
 use Rattle.entangled.specs.CaseNetView.{case_state}
 use Rattle.entangled.specs.OpenFaults.{OpenFault}
 use Rattle.graph_update.specs.Updates.{IsFirstUndefined, IsRunFault, of_opening}
-use Rattle.graph_update.proofs.Orders.{order_take, order_at}
+use Rattle.removal.proofs.Orders.{order_take, order_at}
 
 not_opened : (c : Content) (w : WideAt) → case_opening c ≡ Err w → case_after c [] ≡ Err w
 unfolding case_after

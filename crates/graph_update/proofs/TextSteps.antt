@@ -1,19 +1,19 @@
 -- Which lines there are, by what is tested.
-use Rattle.std.proofs.Common.{◌≡◌, refl, sym, ap, ◌∙◌, subst, ℕ, ◌+◌, ◌<◌, ◌&&◌, not, Bool, true, false, List, [], ◌∷◌, ◌++◌, map, length, get_or, Option, Some, arith, if◌then◌else◌}
+use Rattle.std.proofs.Common.{◌≡◌, refl, sym, ap, ◌∙◌, ℕ, ◌+◌, ◌<◌, ◌&&◌, not, Bool, true, false, List, [], ◌∷◌, ◌++◌, map, length, Some, if◌then◌else◌}
 use Rattle.std.specs.Prelude.{slice_get}
 use Rattle.std.specs.List.{All, flat_map, range_with_len}
-use Rattle.std.proofs.lemmas.List.{get_or-map, length-map}
+use Rattle.std.proofs.lemmas.List.{get_or-map}
 use Rattle.std.proofs.lemmas.Option.{get_or_from_slice_get}
 use Rattle.field_core.specs.Kind.{Parts, Kind, is_zero}
 use Rattle.fraction.specs.Spelling.{spelling}
 use Rattle.field_core.specs.Terms.{Terms}
-use Rattle.removal.specs.StoredGraph.{StoredGraph, size, is_live, weight, edge}
+use Rattle.removal.specs.StoredGraph.{StoredGraph, size, is_live, weight, edge, no_graph}
 use Rattle.entangled.specs.CaseRun.{CaseState, is_live_in_case, case_level}
-use Rattle.graph_update.specs.UpdateText.{Words, no_graph, weight_words, edge_words, level_words, component_words, end_words}
-use Rattle.graph_update.specs.UpdateText.{edge_lines, hypothesis_lines, graph_lines, component_lines, graphs_lines, level_lines, levels_lines, components_lines, update_lines, update_text}
+use Rattle.graph_update.specs.UpdateText.{weight_words, edge_words, level_words, component_words, end_words}
+use Rattle.graph_update.specs.UpdateText.{edge_lines, hypothesis_lines, graph_lines, component_lines, level_lines, levels_lines, components_lines, update_lines, update_text}
 use Rattle.text_lines.specs.Spelling.{text_of}
 use Rattle.graph_update.specs.UpdateText.{line_text}
-use Rattle.graph_update.proofs.Lines.{text_one, text_append, text_cons}
+use Rattle.graph_update.proofs.Lines.{text_one, text_append}
 
 -- which of two there is, by a test
 then_is : {A : Type 0} (b : Bool) (x y : A) → b ≡ true → (if b then x else y) ≡ x

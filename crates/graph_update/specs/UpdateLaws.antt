@@ -11,11 +11,11 @@ use Rattle.case_model.specs.IntersectionWeight.{IsIntersectionWeight}
 use Rattle.case_model.specs.Sums.{number}
 use Rattle.case_model.specs.Validity.{IsValidContent}
 use Rattle.case_numbers.specs.Numbers.{kind_of}
-use Rattle.removal.specs.StoredGraph.{edge}
+use Rattle.removal.specs.StoredGraph.{edge, no_graph}
 use Rattle.entangled.specs.States.{graph_in}
 use Rattle.entangled.specs.CaseRun.{CaseState, state_of}
 use Rattle.entangled.specs.CaseAfter.{case_after}
-use Rattle.graph_update.specs.UpdateText.{Words, levels_lines, end_words, no_graph}
+use Rattle.graph_update.specs.UpdateText.{Words, levels_lines, end_words}
 use Rattle.graph_update.specs.Updates.{ArePositions, IsUpdate}
 
 -- The text ends with a line for each member of a set, by ascending position. It has the weight in the intersection of the set, in lowest terms.

@@ -7,7 +7,7 @@ use Rattle.field_core.specs.Kind.{Parts, Kind, is_zero}
 use Rattle.field_core.specs.Terms.{Terms}
 use Rattle.fraction.specs.Spelling.{spelling}
 use Rattle.case_numbers.specs.Numbers.{kind_of}
-use Rattle.removal.specs.StoredGraph.{StoredGraph, is_live, weight, edge}
+use Rattle.removal.specs.StoredGraph.{StoredGraph, is_live, weight, edge, no_graph}
 use Rattle.entangled.specs.States.{graph_in}
 use Rattle.entangled.specs.CaseRun.{CaseState, state_of, is_live_in_case, case_level}
 use Rattle.evidence_check.specs.NumberTexts.{number_text}
@@ -41,10 +41,6 @@ level_words names k number = codes "level" ∷ name_at names k ∷ number ∷ []
 -- the last line
 abbrev pub end_words : Words
 end_words = codes "end" ∷ []
-
--- (stands for a graph past the last one)
-abbrev pub no_graph : StoredGraph
-no_graph = record { live = []; weights = []; edges = [] }
 
 -- (`names` are those of the hypotheses, and `text` is that of a stored number)
 module _ (names : List (List ℕ)) (K : Kind) (text : Parts → List ℕ) where

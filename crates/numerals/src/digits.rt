@@ -29,7 +29,7 @@ fn digits_len(text: &[u8]) -> usize
 }
 
 /// Returns what follows the first byte of a text if that is `byte`, and nothing otherwise.
-pub fn behind(text: &[u8], byte: u8) -> Option<&[u8]>
+pub fn after_byte(text: &[u8], byte: u8) -> Option<&[u8]>
     ensures { MatchOption result (BeginsOtherwise byte text.now) (λ rest. text.now ≡ byte ∷ rest.now) }
 {
     match text {

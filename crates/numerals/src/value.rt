@@ -5,7 +5,7 @@ ghost use Rattle.numerals.specs.Sizes.{GivesShift, IsBodySize, GivesBody};
 use crate::NumberFault;
 use crate::decimal::Decimal;
 use crate::digits::{
-    MOST_DIGITS, behind, number, number_to_far, split_digits, split_sign, without_leading_zeros,
+    MOST_DIGITS, after_byte, number, number_to_far, split_digits, split_sign, without_leading_zeros,
 };
 use crate::shift::Shift;
 use crate::size::Size;
@@ -51,11 +51,11 @@ pub fn value(body: &[u8]) -> Result<Size, NumberFault>
     ensures { GivesBody body.now result }
 {
     let (whole, rest) = split_digits(body);
-    if let Some(rest) = behind(rest, b'/') {
+    if let Some(rest) = after_byte(rest, b'/') {
         let (under, _) = split_digits(rest);
         return pair(whole, under);
     }
-    if let Some(rest) = behind(rest, b'.') {
+    if let Some(rest) = after_byte(rest, b'.') {
         let (fraction, exponent) = split_digits(rest);
         return Decimal { whole, fraction }.value(shift(exponent));
     }

@@ -14,7 +14,7 @@ use Rattle.case_model.specs.declared.draft_edge.DraftEdge.{DraftEdge}
 use Rattle.case_model.specs.declared.inputs.Inputs.TheVariants.{Bare}
 use Rattle.catalogue.proofs.AloneCases.{is_made}
 use Rattle.catalogue.proofs.KnownEnds.{all_flat, known_ends, known_arrivals}
-use Rattle.catalogue.specs.Makings.{made, behind, holm_case, sequence_case, fallback_case, parallel_case, improved_case}
+use Rattle.catalogue.specs.Makings.{made, unless, holm_case, sequence_case, fallback_case, parallel_case, improved_case}
 use Rattle.catalogue.specs.NamedGraphs.{linear, constant, part, holm_graph, next_edge, sequence_graph, fallback_graph, equal_weights, gate_edge, parallel_graph}
 use Rattle.catalogue.specs.NamedGraphs.{back_edge, improved_graph}
 use Rattle.catalogue.specs.Quotients.{quotient}
@@ -95,7 +95,7 @@ pub record IsBehind (fault : Option CatalogueFault) (r : Result Content Catalogu
   pub none : fault ≡ None
   pub is : r ≡ Ok c
 
-pub behind_is : (fault : Option CatalogueFault) (r : Result Content CatalogueFault) (c : Content) → behind fault r ≡ Ok c → IsBehind fault r c
+pub behind_is : (fault : Option CatalogueFault) (r : Result Content CatalogueFault) (c : Content) → unless fault r ≡ Ok c → IsBehind fault r c
 behind_is None r c e = record { none = refl; is = e }
 behind_is (Some fault) r c e = absurd (cc e)
 
@@ -144,7 +144,7 @@ pub record IsNamedCase (n : ℕ) (c : Content) : Type 0 where
   pub filled : (ps : List Ratio) → ArePValues (length c.names) ps → IsValidContent (with_p c ps)
 
 named : (G : WeightedGraph) (n : ℕ) (fault : Option CatalogueFault) (c : Content) → G.size ≡ n → ((i j : ℕ) → IsWholeEdge (G.edge i j))
-    → behind fault (made (draft_of G (part 20) [])) ≡ Ok c → IsNamedCase n c
+    → unless fault (made (draft_of G (part 20) [])) ≡ Ok c → IsNamedCase n c
 named G n fault c size whole h =
     let k = of_graph G (part 20) c whole (behind_is fault (made (draft_of G (part 20) [])) c h).is in
     record { valid = k.valid; whole = k.whole; names = k.names ∙ ap names_of size; level = k.level; bare = k.bare; filled = k.filled }

@@ -78,7 +78,7 @@ fn arrive(current: &mut Study, arrival: &Arrival)
 }
 
 /// Returns the rejections after the first `n`.
-pub fn behind(settled: &[Settled], n: usize) -> &[Settled]
+pub fn settled_after(settled: &[Settled], n: usize) -> &[Settled]
     requires { n ≤ length settled.now }
     ensures { result.now ≡ drop n settled.now }
 {
@@ -107,7 +107,7 @@ fn look(
         return Err(LooksFault::Arriving(n, wide));
     }
     let mut added = List::new(alloc);
-    added.append(behind(current.settled(), before))?;
+    added.append(settled_after(current.settled(), before))?;
     Ok(added)
 }
 

@@ -9,7 +9,7 @@
 //!   rejections before stay.
 //! - `settled`: the rejections. The staged closed test rejects each (`sound`), and no other hypothesis once none is legal
 //!   (`complete`).
-//! - Also `weight_limit`; `behind` returns the rejections after the first `n`.
+//! - Also `weight_limit`; `settled_after` returns the rejections after the first `n`.
 //!
 //! Proved of `looks`: the rejections of a study of a case that is settled after each of its arrivals (`looks`, `fault`).
 //!
@@ -29,6 +29,6 @@ mod event;
 pub mod laws;
 mod study;
 
-pub use case_looks::{LooksFault, behind, looks};
+pub use case_looks::{LooksFault, looks, settled_after};
 pub use event::{Event, SettleFault, Settled, StepFault};
 pub use study::{Study, is_staged};

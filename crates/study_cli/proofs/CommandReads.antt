@@ -7,9 +7,9 @@ use Rattle.field_core.specs.Answers.{mapped, IsUnless, told_as}
 use Rattle.field_core.proofs.Results.{made_of, same_value, same_fault}
 use Rattle.text_lines.specs.Faults.{FaultAt}
 use Rattle.text_lines.specs.Forms.{Say, Seen, AreMany, Is, reading, texts_seen}
-use Rattle.text_lines.specs.Kinds.{either_of, expected, behind, more_lines}
+use Rattle.text_lines.specs.Kinds.{either_of, expected, keyed_line, more_lines}
 use Rattle.text_lines.specs.Lines.{Row, rows_of, texts_in, end_of}
-use Rattle.text_lines.specs.Words.{words_of, words_behind}
+use Rattle.text_lines.specs.Words.{words_of, words_after}
 use Rattle.text_lines.proofs.FormFaults.{faults_end, none_is_fault}
 use Rattle.text_lines.proofs.FormLines.{lines_step, lines_taken, lines_can}
 use Rattle.text_lines.proofs.FormReads.{reading_as}
@@ -54,15 +54,15 @@ module _ (names : Words) where
       subst (IsCommandLine names line) (sym a.2) (record { behind = words; words = w; are = arrival_is names words a.0 a.1 })
 
   command_said : (line : List ℕ) (c : StudyCommand) → IsCommandLine names line c → command names line ≡ Some (Ok c)
-  command_said line (Take l) h = ap (λ o. either_of o (behind (codes "show") show line))
+  command_said line (Take l) h = ap (λ o. either_of o (keyed_line (codes "show") show line))
       (line_said {Are = IsLook} (codes "look") (look names) look_said line (Take l) h)
   command_said line Show h =
-      ap (λ ws. either_of (option_map (look names) (words_behind (codes "look") ws)) (option_map show (words_behind (codes "show") ws))) h
+      ap (λ ws. either_of (option_map (look names) (words_after (codes "look") ws)) (option_map show (words_after (codes "show") ws))) h
 
   command_is : (line : List ℕ) (c : StudyCommand) → command names line ≡ Some (Ok c) → IsCommandLine names line c
-  command_is line c e = by (words_behind (codes "look") (words_of line)) (words_behind (codes "show") (words_of line)) refl refl e
+  command_is line c e = by (words_after (codes "look") (words_of line)) (words_after (codes "show") (words_of line)) refl refl e
     where
-      by : (looks shows : Option Words) → looks ≡ words_behind (codes "look") (words_of line) → shows ≡ words_behind (codes "show") (words_of line)
+      by : (looks shows : Option Words) → looks ≡ words_after (codes "look") (words_of line) → shows ≡ words_after (codes "show") (words_of line)
           → either_of (option_map (look names) looks) (option_map show shows) ≡ Some (Ok c) → IsCommandLine names line c
       by (Some words) shows f g q = look_is line words c (keyword_found (codes "look") (words_of line) words f) (some_result (look names words) (Ok c) q)
       by None (Some []) f g q = subst (IsCommandLine names line) (same_value Show c (some_result (Ok Show) (Ok c) q)) (keyword_found (codes "show") (words_of line) [] g)

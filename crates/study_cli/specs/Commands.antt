@@ -4,7 +4,7 @@ use Rattle.field_core.specs.Answers.{mapped}
 use Rattle.case_model.specs.declared.draft_stages.Arrival.{Arrival}
 use Rattle.text_lines.specs.Faults.{FaultAt}
 use Rattle.text_lines.specs.Forms.{Form, Leaf, texts_seen, reading}
-use Rattle.text_lines.specs.Kinds.{behind, or_line, more_lines}
+use Rattle.text_lines.specs.Kinds.{keyed_line, or_line, more_lines}
 use Rattle.text_lines.specs.Lines.{rows_of, end_of}
 use Rattle.edge_text.specs.Document.{kinds}
 use Rattle.edge_text.specs.Grammar.{Words}
@@ -29,7 +29,7 @@ show (word ∷ words) = Err WordCount
 
 -- `look` and the words of a p-value that arrives, or `show` alone
 abbrev pub command : List (List ℕ) → Leaf (List ℕ) LineKind StudyCommand
-command names = or_line (behind (codes "look") (look names)) (behind (codes "show") show)
+command names = or_line (keyed_line (codes "look") (look names)) (keyed_line (codes "show") show)
 
 -- A document has commands, one a line.
 abbrev pub commands : List (List ℕ) → Form (List ℕ) LineKind (List StudyCommand)

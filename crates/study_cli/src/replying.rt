@@ -15,7 +15,7 @@ use case_model::Case;
 use field_core::{List, NoMemory, WideAt};
 use graph_io::{Keeper, Look};
 use report::{put_refused, put_shown, put_taken};
-use staged_levels::behind;
+use staged_levels::settled_after;
 use std::alloc::Global;
 use study_register::{AddFault, Register};
 
@@ -68,7 +68,7 @@ fn take<K: Keeper>(
     let place = register.next_place();
     match register.add(alloc, keeper, look) {
         Ok(()) => {
-            let rejections = behind(register.settled(), before);
+            let rejections = settled_after(register.settled(), before);
             Ok(put_taken(alloc, text, case, look, rejections)?)
         }
         Err(AddFault::Refused(fault)) => Ok(put_refused(alloc, text, number, &fault)?),

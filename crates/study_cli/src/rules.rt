@@ -73,10 +73,10 @@ fn show(line: &Line, mut words: Words) -> Result<StudyCommand, CommandsFault>
 pub fn command(line: &Line, case: &Case) -> Result<StudyCommand, CommandsFault>
     ensures { result ≡ told_as (faults.Line line.now.number) (expected kinds (command (content case.now).names line.now.text.now)) }
 {
-    if let Some(words) = line.behind(b"look") {
+    if let Some(words) = line.words_after(b"look") {
         return look(line, words, case);
     }
-    if let Some(words) = line.behind(b"show") {
+    if let Some(words) = line.words_after(b"show") {
         return show(line, words);
     }
     Err(CommandsFault::Line(line.number, LineKind::Unexpected))

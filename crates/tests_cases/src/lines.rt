@@ -55,7 +55,7 @@ fn position(rt: &impl Abort, names: &[Text], name: &[u8]) -> usize {
 /// Returns the words of the first line with this keyword.
 fn behind<'a>(text: &'a [u8], keyword: &[u8]) -> Option<Words<'a>> {
     for line in Lines::new(text) {
-        if let Some(words) = line.behind(keyword) {
+        if let Some(words) = line.words_after(keyword) {
             return Some(words);
         }
     }
@@ -108,7 +108,7 @@ fn components(
 ) -> List<DraftComponent> {
     let mut list = List::new(rt.alloc());
     for line in Lines::new(text) {
-        if let Some(mut words) = line.behind(b"component") {
+        if let Some(mut words) = line.words_after(b"component") {
             let label = word(rt, &mut words);
             let component = DraftComponent {
                 share: number(rt, word(rt, &mut words)),
@@ -130,7 +130,7 @@ fn edges(
 ) -> List<DraftEdge> {
     let mut list = List::new(rt.alloc());
     for line in Lines::new(text) {
-        if let Some(mut words) = line.behind(b"edge") {
+        if let Some(mut words) = line.words_after(b"edge") {
             if word(rt, &mut words) == label {
                 list.push(edge(rt, words, names)).expect(rt, "no memory");
             }
@@ -171,12 +171,12 @@ fn stages(rt: &(impl Abort + AllocGlobal), text: &[u8], names: &[Text]) -> Optio
 pub fn spends(rt: &(impl Abort + AllocGlobal), text: &[u8]) -> List<Spend> {
     let mut list = List::new(rt.alloc());
     for line in Lines::new(text) {
-        if let Some(mut words) = line.behind(b"spend") {
+        if let Some(mut words) = line.words_after(b"spend") {
             word(rt, &mut words);
             let fractions = Spend::Shares(numbers(rt, words));
             list.push(fractions).expect(rt, "no memory");
         }
-        if let Some(words) = line.behind(b"table") {
+        if let Some(words) = line.words_after(b"table") {
             let table = Spend::Table(table(rt, text, words));
             list.push(table).expect(rt, "no memory");
         }
@@ -202,7 +202,7 @@ fn add_steps(
     name: &[u8],
 ) {
     for line in Lines::new(text) {
-        if let Some(mut words) = line.behind(b"step") {
+        if let Some(mut words) = line.words_after(b"step") {
             if word(rt, &mut words) == name {
                 let from = number(rt, word(rt, &mut words));
                 let levels = numbers(rt, words);
@@ -217,7 +217,7 @@ fn add_steps(
 fn arrivals(rt: &(impl Abort + AllocGlobal), text: &[u8], names: &[Text]) -> List<Arrival> {
     let mut list = List::new(rt.alloc());
     for line in Lines::new(text) {
-        if let Some(mut words) = line.behind(b"arrive") {
+        if let Some(mut words) = line.words_after(b"arrive") {
             let arrival = Arrival {
                 hypothesis: position(rt, names, word(rt, &mut words)),
                 stage: whole(rt, word(rt, &mut words)) as usize,

@@ -8,7 +8,7 @@ use Rattle.std.proofs.lemmas.Bool.{ne_eqb, cases_Bool}
 use Rattle.std.proofs.lemmas.List.{append-nil}
 use Rattle.std.proofs.lemmas.List.Splits.{slice_split-cons_yes, slice_split-cons_no, length-slice_split}
 use Rattle.text_lines.specs.Lines.{is_line_feed, whole_lines, lines_of, begins_comment, is_skipped, kept_after, Row}
-use Rattle.text_lines.specs.Words.{is_blank, words_of, is_word, after_blanks, behind_word}
+use Rattle.text_lines.specs.Words.{is_blank, words_of, is_word, after_blanks, after_word}
 use Rattle.text_lines.specs.Spelling.{spaced, line_spelt, text_of, IsPlain, IsWord, IsNoComment, IsLine, numbered}
 use Rattle.text_lines.proofs.Cut.{kept_take, kept_nil, whole_cons, drop_past, words_blank}
 
@@ -69,8 +69,8 @@ drop_word [] rest = refl
 drop_word (b ∷ word) rest = drop_word word rest
 
 -- what stands after a word begins with the blank
-pub behind_spelt : (b : ℕ) (word rest : List ℕ) → is_blank b ≡ true → IsWord word → behind_word (word ++ b ∷ rest) ≡ b ∷ rest
-unfolding behind_word
+pub behind_spelt : (b : ℕ) (word rest : List ℕ) → is_blank b ≡ true → IsWord word → after_word (word ++ b ∷ rest) ≡ b ∷ rest
+unfolding after_word
 behind_spelt b word rest e h =
     ap (λ (line : List ℕ). drop (position_or_len is_blank line) line) (no_blanks word (b ∷ rest) h)
     ∙ ap (λ n. drop n (word ++ b ∷ rest)) (length_plain b word rest e h.plain) ∙ drop_word word (b ∷ rest)
@@ -80,8 +80,8 @@ after_blank : (b : ℕ) (rest : List ℕ) → is_blank b ≡ true → after_blan
 unfolding after_blanks
 after_blank b rest e = rw e (drop_past (prefix_len is_blank rest) b rest)
 
-pub behind_blank : (b : ℕ) (rest : List ℕ) → is_blank b ≡ true → behind_word (b ∷ rest) ≡ behind_word rest
-unfolding behind_word
+pub behind_blank : (b : ℕ) (rest : List ℕ) → is_blank b ≡ true → after_word (b ∷ rest) ≡ after_word rest
+unfolding after_word
 behind_blank b rest e = ap (λ (line : List ℕ). drop (position_or_len is_blank line) line) (after_blank b rest e)
 
 -- nor does one at the end, which has an empty part after it

@@ -1,16 +1,16 @@
 -- Kinds of lines, by their words, and forms that are often used.
 use Rattle.std.specs.Prelude.{ℕ, List, [], ◌∷◌, ◌++◌, Option, Some, None, Result, Ok, Err}
 use Rattle.std.specs.Option.{option_map}
-use Rattle.text_lines.specs.Words.{words_of, words_behind}
+use Rattle.text_lines.specs.Words.{words_of, words_after}
 use Rattle.text_lines.specs.Forms.{Leaf, Form, Say, Then, May, Many, Kinds}
 
 -- a line with this first word, and what its other words say
-abbrev pub words_after : {K A : Type 0} → List ℕ → (List (List ℕ) → Result A K) → Leaf (List (List ℕ)) K A
-words_after keyword f words = option_map f (words_behind keyword words)
+abbrev pub keyed_words : {K A : Type 0} → List ℕ → (List (List ℕ) → Result A K) → Leaf (List (List ℕ)) K A
+keyed_words keyword f words = option_map f (words_after keyword words)
 
 -- a line with this first word, seen by its text, and what its other words say
-abbrev pub behind : {K A : Type 0} → List ℕ → (List (List ℕ) → Result A K) → Leaf (List ℕ) K A
-behind keyword f line = option_map f (words_behind keyword (words_of line))
+abbrev pub keyed_line : {K A : Type 0} → List ℕ → (List (List ℕ) → Result A K) → Leaf (List ℕ) K A
+keyed_line keyword f line = option_map f (words_after keyword (words_of line))
 
 -- the first answer, if there is one, and else the other
 abbrev pub either_of : {K A : Type 0} → Option (Result A K) → Option (Result A K) → Option (Result A K)

@@ -15,9 +15,9 @@ first_of [] = None
 first_of (row ∷ rows) = Some row
 
 -- the lines after the first one
-abbrev pub behind_first : List Row → List Row
-behind_first [] = []
-behind_first (row ∷ rows) = rows
+abbrev pub rows_after_first : List Row → List Row
+rows_after_first [] = []
+rows_after_first (row ∷ rows) = rows
 
 -- this line, if there is one, and the lines after it
 abbrev pub rows_from : Option Line → List Row → List Row

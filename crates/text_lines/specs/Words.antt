@@ -24,18 +24,18 @@ unfoldable pub after_blanks : List ℕ → List ℕ
 after_blanks line = drop (prefix_len is_blank line) line
 
 -- what follows the first word of a line
-unfoldable pub behind_word : List ℕ → List ℕ
-behind_word line = drop (position_or_len is_blank (after_blanks line)) (after_blanks line)
+unfoldable pub after_word : List ℕ → List ℕ
+after_word line = drop (position_or_len is_blank (after_blanks line)) (after_blanks line)
 
 -- what follows the first n words of a line
-abbrev pub behind_words : ℕ → List ℕ → List ℕ
-behind_words zero line = line
-behind_words (suc n) line = behind_words n (behind_word line)
+abbrev pub after_words : ℕ → List ℕ → List ℕ
+after_words zero line = line
+after_words (suc n) line = after_words n (after_word line)
 
 -- the words after the keyword, if that is the first
-abbrev pub words_behind : List ℕ → List (List ℕ) → Option (List (List ℕ))
-words_behind keyword [] = None
-words_behind keyword (w ∷ ws) = if bytes_eq w keyword then Some ws else None
+abbrev pub words_after : List ℕ → List (List ℕ) → Option (List (List ℕ))
+words_after keyword [] = None
+words_after keyword (w ∷ ws) = if bytes_eq w keyword then Some ws else None
 
 -- the word, if there is exactly one
 abbrev pub only_word : List (List ℕ) → Option (List ℕ)
@@ -54,4 +54,4 @@ only_three (a ∷ b ∷ c ∷ d ∷ ws) = None
 -- The next word was taken, if there is one, and this is left of the line.
 pub record TakesWord (old : List ℕ) (result : Option (Bor (List ℕ))) (new : List ℕ) : Type 0 where
   pub word : YieldsFirstRef words_of old result new
-  pub rest : new ≡ behind_word old
+  pub rest : new ≡ after_word old

@@ -3,7 +3,7 @@ ghost use Rattle.std.specs.Prelude.{◌≡◌, [], ◌∷◌, MatchOption, map};
 ghost use Rattle.std.specs.Option.{option_map};
 ghost use Rattle.text_lines.specs.Lines.{rows_of, end_of, rows_left, end_at};
 ghost use Rattle.text_lines.specs.View.{row};
-ghost use Rattle.text_lines.specs.Left.{Left, first_of, behind_first, ahead};
+ghost use Rattle.text_lines.specs.Left.{Left, first_of, rows_after_first, ahead};
 
 use crate::{Line, Lines};
 use std::marker::Model;
@@ -46,7 +46,7 @@ impl<'a> Ahead<'a> {
 
     /// Drops the first line, so that the next one is first. Does nothing if no line is left.
     pub fn skip(&mut self)
-        ensures rows { self.new.rows ≡ behind_first self.old.rows }
+        ensures rows { self.new.rows ≡ rows_after_first self.old.rows }
         ensures end { self.new.end ≡ self.old.end }
     {
         self.first = self.lines.next();

@@ -2,7 +2,7 @@
 ghost use Rattle.std.specs.Prelude.{◌≡◌, [], ◌∷◌, ◌++◌, ℕ, List, true};
 ghost use Rattle.std.specs.List.{AllByRecursion};
 ghost use Rattle.text_lines.specs.Lines.{rows_of};
-ghost use Rattle.text_lines.specs.Words.{is_blank, words_of, behind_word};
+ghost use Rattle.text_lines.specs.Words.{is_blank, words_of, after_word};
 ghost use Rattle.text_lines.specs.Spelling.{line_spelt, text_of, numbered, IsWord, IsLine};
 
 /// Lines of words, spelt with one blank between words and a line feed after each line, read back as these lines with
@@ -20,8 +20,8 @@ pub fn words_end_at_blanks()
     ensures word { (b : ℕ) (word rest : List ℕ) → is_blank b ≡ true → IsWord word
         → words_of (word ++ b ∷ rest) ≡ word ∷ words_of rest }
     ensures rest { (b : ℕ) (word rest : List ℕ) → is_blank b ≡ true → IsWord word
-        → behind_word (word ++ b ∷ rest) ≡ b ∷ rest }
+        → after_word (word ++ b ∷ rest) ≡ b ∷ rest }
     ensures blank_word { (b : ℕ) (rest : List ℕ) → is_blank b ≡ true → words_of (b ∷ rest) ≡ words_of rest }
-    ensures blank_rest { (b : ℕ) (rest : List ℕ) → is_blank b ≡ true → behind_word (b ∷ rest) ≡ behind_word rest }
+    ensures blank_rest { (b : ℕ) (rest : List ℕ) → is_blank b ≡ true → after_word (b ∷ rest) ≡ after_word rest }
     ensures blank_end { (b : ℕ) (line : List ℕ) → is_blank b ≡ true → words_of (line ++ b ∷ []) ≡ words_of line }
 {}

@@ -1,7 +1,7 @@
 //! A line of a text.
 ghost use Rattle.std.specs.Prelude.{◌≡◌, IfSome};
 ghost use Rattle.std.specs.Option.{option_map};
-ghost use Rattle.text_lines.specs.Words.{words_of, behind_word, words_behind};
+ghost use Rattle.text_lines.specs.Words.{words_of, after_word, words_after};
 
 use crate::Words;
 
@@ -21,9 +21,9 @@ impl<'a> Line<'a> {
     }
 
     /// Returns the words after the first one if that is the keyword, and `None` otherwise.
-    pub fn behind(&self, keyword: &[u8]) -> Option<Words<'a>>
-        ensures words { option_map words_of result ≡ words_behind keyword.now (words_of self.now.text.now) }
-        ensures rest { IfSome result (λ words. words ≡ behind_word self.now.text.now) }
+    pub fn words_after(&self, keyword: &[u8]) -> Option<Words<'a>>
+        ensures words { option_map words_of result ≡ words_after keyword.now (words_of self.now.text.now) }
+        ensures rest { IfSome result (λ words. words ≡ after_word self.now.text.now) }
     {
         let mut words = self.words();
         let first = words.next()?;

@@ -67,7 +67,7 @@ impl<'a> Iterator for Words<'a> {
     ghost remaining = { item_count words_of };
 
     /// Returns the next word.
-    #[tactic(auto, using(crate::proofs::Cut::next_words), unfolding(crate::specs::Words::behind_word))]
+    #[tactic(auto, using(crate::proofs::Cut::next_words), unfolding(crate::specs::Words::after_word))]
     fn next(&mut self) -> Option<&'a [u8]> {
         let rest = after_blanks(self.rest);
         let (word, rest) = rest.split_at(word_len(rest));

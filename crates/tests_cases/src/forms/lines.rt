@@ -105,7 +105,7 @@ fn is_behind_edge(text: &str, rest: &Option<&str>) -> bool {
         number: 1,
         text: text.as_bytes(),
     };
-    match (line.behind(b"edge"), rest) {
+    match (line.words_after(b"edge"), rest) {
         (Some(words), Some(rest)) => words.rest() == rest.as_bytes(),
         (None, None) => true,
         _ => false,

@@ -1,4 +1,4 @@
-use Rattle.std.proofs.Common.{rules, ◌≡◌, sym, refl, Err, Ok}
+use Rattle.std.proofs.Common.{rules, ◌≡◌, sym, refl, Err}
 use Rattle.case_model.specs.CaseView.{content}
 use Rattle.entangled.specs.CaseNetView.{case_state}
 use Rattle.graph_update.specs.Updates.{of_opening}

@@ -1,5 +1,4 @@
 use Rattle.std.proofs.Common.{◌<◌, ◌+◌, map, length, arith}
-use Rattle.std.proofs.lemmas.List.{length-map}
 use Rattle.case_model.specs.CaseView.{content}
 use Rattle.entangled.specs.BundleView.{bundled}
 use Rattle.graph_update.specs.UpdateText.{component_lines, component_words}

@@ -8,14 +8,14 @@ returns-in-Some c = read_pair c.args.body.now _ c.in-Some.rest.now _ c.pair.resu
     (sym c.in-Some.ensures ∙ c.split_digits.ensures.rest) c.split_digits-in-Some.ensures.digits c.pair.ensures
 
 pub value-requires : goal.value-requires
-value-requires c = digits_append _ _ c.split_digits.ensures.are c.split_digits-in-Some-behind.ensures.are
+value-requires c = digits_append _ _ c.split_digits.ensures.are c.split_digits-in-Some-after_byte.ensures.are
 
-pub returns-in-Some-behind : goal.returns-in-Some-behind
-returns-in-Some-behind c =
-    read_pointed c.args.body.now c.in-Some-behind.rest.now _ _ _ _ c.split_digits.ensures.digits
-    (sym c.in-Some-behind.ensures ∙ c.split_digits.ensures.rest) c.split_digits-in-Some-behind.ensures.digits c.split_digits-in-Some-behind.ensures.rest
+pub returns-in-Some-after_byte : goal.returns-in-Some-after_byte
+returns-in-Some-after_byte c =
+    read_pointed c.args.body.now c.in-Some-after_byte.rest.now _ _ _ _ c.split_digits.ensures.digits
+    (sym c.in-Some-after_byte.ensures ∙ c.split_digits.ensures.rest) c.split_digits-in-Some-after_byte.ensures.digits c.split_digits-in-Some-after_byte.ensures.rest
     c.shift.ensures c.value.ensures
 
 pub returns : goal.returns
 returns c = read_plain c.args.body.now c.split_digits.result.1.now _ _ _ c.split_digits.ensures.digits c.split_digits.ensures.rest c.in_default.ensures
-    c.in_default-behind.ensures refl c.shift-2.ensures c.value-2.ensures
+    c.in_default-after_byte.ensures refl c.shift-2.ensures c.value-2.ensures

@@ -4,9 +4,9 @@ use Rattle.staged_levels.proofs.Calls.{settle_appends}
 use Rattle.staged_levels.proofs.LookSteps.{study_defined, added_are, grown}
 use Rattle.staged_levels.proofs.case_looks.look.Goals as goal
 
-pub behind-requires : goal.behind-requires
+pub settled_after-requires : goal.settled_after-requires
 unfolding study
-behind-requires c =
+settled_after-requires c =
     let t = study c.args.current.now in
     let new = study c.settle.new.self in
     let more = grown t c.args.current.now.whole new.looks (λ k T.
@@ -23,7 +23,7 @@ returns-clause-look c = λ k T.
     let settles = c.in_default.ensures.call k M in
     let s = settle_appends k mid.looks new.looks settles in
     let put : c.append.new.self ≡ drop (length old.looks.rejected) new.looks.rejected
-    = c.in_ok-append.ensures.appended ∙ ap (λ xs. xs ++ c.behind.result.now) c.new-added.ensures ∙ c.behind.ensures
+    = c.in_ok-append.ensures.appended ∙ ap (λ xs. xs ++ c.settled_after.result.now) c.new-added.ensures ∙ c.settled_after.ensures
     ∙ ap₂ (λ xs ys. drop (length xs) ys) c.settled-before.ensures.value c.settled.ensures.value in
     record {
       arrived = mid.looks;

@@ -18,7 +18,7 @@ put_taken-requires-clause-rejections g c =
     let k = content c.args.case.now in
     let old = looks_in c.args.register.now in
     let new = looks_in c.add.new.self in
-    let same = c.behind-rejections.ensures ∙ ap₂ drop (ap length c.settled-before.ensures.value) c.settled.ensures.value in
+    let same = c.settled_after-rejections.ensures ∙ ap₂ drop (ap length c.settled-before.ensures.value) c.settled.ensures.value in
     subst (AreRejectionsOf k) (sym same) (brought_below k old new c.args.look.now (c.in-Ok.ensures.taken k c.requires.study))
 
 pub returns-in_ok-put_taken-in-Ok-clause-replied : goal.returns-in_ok-put_taken-in-Ok-clause-replied
@@ -27,9 +27,9 @@ returns-in_ok-put_taken-in-Ok-clause-replied g c =
     let old = looks_in c.args.register.now in
     let new = looks_in c.add.new.self in
     let T = c.in-Ok.ensures.taken k c.requires.study in
-    let same = c.behind-rejections.ensures ∙ ap₂ drop (ap length c.settled-before.ensures.value) c.settled.ensures.value in
+    let same = c.settled_after-rejections.ensures ∙ ap₂ drop (ap length c.settled-before.ensures.value) c.settled.ensures.value in
     taken_written k c.args.number old (g.K.Keeper.looks c.args.keeper.now) (g.K.Keeper.calls c.args.keeper.now) c.args.look.now
-    (g.K.Keeper.looks c.add.new.keeper) c.args.text.now c.put_taken.new.text new c.behind-rejections.result.now T
+    (g.K.Keeper.looks c.add.new.keeper) c.args.text.now c.put_taken.new.text new c.settled_after-rejections.result.now T
     (same ∙ brought k old new c.args.look.now T) c.in-Ok.ensures.kept (g.K.Keeper.calls c.add.new.keeper)
     (c.add.ensures.turns ∙ ap (λ r. g.K.Keeper.calls c.args.keeper.now + turns_of r) c.in-Ok.is) c.in_ok-put_taken-in-Ok.ensures.put
 
