@@ -75,7 +75,8 @@ impl Component {
     }
 }
 
-/// Returns the table of the edges between `count` hypotheses, row by row. Of several edges with the same ends it has the first.
+/// Returns the table of the edges between `count` hypotheses, row by row. Of several edges with the same ends it has the first,
+/// so they are set from the last to the first.
 #[tactic(auto, using(crate::proofs::Holding::all_at))]
 fn table(alloc: Global, count: usize, edges: &[DraftEdge]) -> Result<List<Entry>, NoMemory>
     requires few { count ≤ 64 }

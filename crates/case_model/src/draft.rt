@@ -65,8 +65,8 @@ impl Draft {
     }
 
     /// Returns the case that the draft denotes, or the first fault that a row of `CaseFault` finds in it, or `NoMemory`. A
-    /// refusal gives the draft's names back; the rest is dropped. Each edge goes from a hypothesis to a hypothesis, and each
-    /// p-value that arrived is of a hypothesis.
+    /// refusal gives the draft's names back; the rest is dropped. The ends of each edge, and the place of each p-value that arrived,
+    /// have to be those of hypotheses.
     pub fn finish(self, alloc: Global) -> Result<Case, Refused>
         requires ends { have_known_ends self ≡ true }
         requires arrivals { have_known_arrivals self ≡ true }

@@ -34,7 +34,7 @@ fn put_factor(out: &mut List<u8>, coefficient: &Fraction) -> Result<(), NoMemory
     out.push(b'*')
 }
 
-/// Appends a term by its coefficient, which isn't below 0.
+/// Appends a term by its coefficient. Of a negative coefficient the caller has put the sign.
 #[tactic(auto, unfolding(crate::specs::EntryTexts::term_text))]
 fn put_term(out: &mut List<u8>, power: usize, coefficient: &Fraction) -> Result<(), NoMemory>
     requires { power ≤ 4 }

@@ -61,11 +61,7 @@ fn put_name(text: &mut List<u8>, case: &Case, hypothesis: usize) -> Result<(), N
 }
 
 /// Appends the line of the version.
-fn put_version<F: WrittenNumber>(
-    text: &mut List<u8>,
-    case: &Case,
-    version: u8,
-) -> Result<(), NoMemory>
+fn put_version(text: &mut List<u8>, version: u8) -> Result<(), NoMemory>
     ensures { OnOk result (text.new ≡ text.old ++ line_text (version_words version)) }
 {
     text.append(b"evidence")?;
@@ -247,7 +243,7 @@ fn written<F: WrittenNumber>(
 {
     let steps = proof.steps.as_slice();
     let mut text = List::new(alloc);
-    put_version::<F>(&mut text, case, proof.version)?;
+    put_version(&mut text, proof.version)?;
     put_steps(&mut text, case, steps)?;
     put_keeps(&mut text, case, steps, proof.keeps.as_slice())?;
     text.append(b"end\n")?;
