@@ -58,6 +58,24 @@ const ROWS: &[Row] = &[
         ],
         rejected: &[0, 1],
     },
+    // The same beside H1, which keeps its half of the weight, and would pass all of it to H5.
+    Row {
+        case: BESIDE_A_CHAIN,
+        calls: &[
+            (1, Answer::Done, &[]),
+            (2, Answer::Done, &[]),
+            (
+                3,
+                Answer::Wide(WideAt {
+                    component: 0,
+                    place: Place::Weight(4),
+                    op: Op::Mul,
+                }),
+                &[(0, (1, 2)), (4, (0, 1))],
+            ),
+        ],
+        rejected: &[1, 2],
+    },
     Row {
         case: IMPROVED_GATEKEEPING,
         calls: &[
@@ -69,6 +87,15 @@ const ROWS: &[Row] = &[
         rejected: &[0, 2, 3, 1],
     },
 ];
+
+const BESIDE_A_CHAIN: &str = "alpha 0.05\n\
+    hypotheses H1 H2 H3 H4 H5\n\
+    p 1 0 0 0 0\n\
+    weights 1/2 1/2 0 0 0\n\
+    edge H1 H5 1\n\
+    edge H2 H3 1/1000000000000000000\n\
+    edge H3 H4 1/999999999999999999\n\
+    edge H4 H5 1/999999999999999997\n";
 
 /// The product of the first two edges of the chain.
 const LONG: Parts = (1, 999_999_999_999_999_999_000_000_000_000_000_000);
