@@ -10,17 +10,14 @@
     --find         prints every row and test that fails, whatever the table says
 
 The prover refuses a wrong body for some reason. This script shows that the body is wrong in the way that its line says: built
-without proofs, it fails a run whose end was found by hand. The line names that run in its fourth column:
-
-    `TABLE` "WORDS"   the first row of crates/acceptance/data/TABLE after the comment with these words
-    `CRATE` `TEST`    a test of this crate
-    none: REASON      no run can fail, for this reason
+without proofs, it fails a run whose end was found by hand. The line names that run in its fourth cell (see bench/planted.py).
 
 The script works on a copy, in which each function that an edit changes has two bodies and a switch between them (see
 bench/wants.py). So acceptance and the crates of tests are built once for all wrong bodies, and then run with one switch on.
 
-Prints a line for each wrong body, `fails NAME of CRATE at PLACE`, `passes ..` or `not compiled ..`. Ends with status 1 if one
-passes or isn't compiled. Needs rt, cc and Linux, and two to four minutes of two processors for each crate that it builds.
+Prints a line for each wrong body, `fails NAME of CRATE at PLACE`, `passes ..`, `no such test ..` if there is no test of this name
+that passes with the right bodies, or `not compiled ..`. Ends with status 1 unless each wrong body fails, or its line has a reason.
+Needs rt, cc and Linux, and two to four minutes of two processors for each crate that it builds.
 """
 import argparse
 import concurrent.futures
@@ -37,7 +34,6 @@ import wants
 
 TOP = wants.TOP
 TABLES = f"{TOP}/crates/acceptance/data"
-ROW = re.compile(r'`(?P<table>[^`]+\.rows)` "(?P<words>[^"]+)"|`(?P<crate>\w+)` `(?P<test>[\w:]+)`|none: (?P<reason>.+)')
 
 
 def read(path):
@@ -51,9 +47,9 @@ class Body:
 
     def __init__(self, row):
         self.name, self.crate = row.name, row.crate
-        found = ROW.search(row.run)
+        found = planted.RUN.fullmatch(row.run)
         if not found:
-            sys.exit(f"docs/TESTING.md: {row.name}: no row: {row.run}")
+            sys.exit(f"docs/TESTING.md: {row.name}: not the name of a run: {row.run}")
         self.row = found.groupdict()
         self.change = change_of(row.crate, row.name)
         self.number = None
@@ -87,18 +83,6 @@ def change_of(crate, name):
     return changes[0]
 
 
-def row_line(table, words):
-    """Returns the number of the line of the first row after the comment with these words."""
-    lines = read(f"crates/acceptance/data/{table}").split("\n")
-    found = [n for n, line in enumerate(lines) if line.startswith("#") and words in line]
-    if len(found) != 1:
-        sys.exit(f"{table}: {len(found)} comments have the words: {words}")
-    for n in range(found[0], len(lines)):
-        if re.match(r"(run|run_study|file_word)\b", lines[n]):
-            return n + 1
-    sys.exit(f"{table}: no row after the comment with the words: {words}")
-
-
 def said_by(tests, name, number):
     """Returns whether a test ends well with a switch on, and what it prints."""
     with open(f"{tests.room}/words", "rb") as it:
@@ -125,7 +109,7 @@ def said_by(tests, name, number):
 def place_of(body):
     """Returns the crate, the test or table, and the line of the run that a wrong body has to fail."""
     if body.row["table"]:
-        return "acceptance", body.row["table"], row_line(body.row["table"], body.row["words"])
+        return "acceptance", body.row["table"], planted.row_line(body.row["table"], body.row["words"], int(body.row["nth"] or 1))
     return body.row["crate"], body.row["test"], None
 
 
@@ -163,7 +147,7 @@ def run(bodies, room, jobs, is_finding):
         crates |= {it for it in copy.uses if it.startswith("tests_")}
     tests, status = {}, 0
     for crate in sorted(crates):
-        _, built = wants.built(copy, crate, [])
+        _, built = wants.built(copy, crate, [], None if is_finding else sorted({it.row["table"] for it in bodies if it.row["table"]}))
         if built is None:
             return 1
         tests[crate] = built
@@ -177,6 +161,8 @@ def run(bodies, room, jobs, is_finding):
             return f"no row for {body}: {body.row['reason']}", False
         crate, name, line = place_of(body)
         place = f"{name}:{line}" if line else f"{crate} {name}"
+        if name not in tests[crate].names:
+            return f"no such test for {body}: {place}", True
         is_failing = fails(body, tests)
         return f"{'fails' if is_failing else 'passes'} {body} at {place}", not is_failing
 

@@ -362,8 +362,10 @@ class Copy:
 class Tests:
     """The tests of a crate, built with all switches off."""
 
-    def __init__(self, copy, crate):
+    def __init__(self, copy, crate, tables=None):
+        """With `tables`, those of acceptance that are run, and else all of them."""
         self.copy, self.crate, self.room = copy, crate, f"{copy.room}/of-{crate}"
+        self.tables = tables
         self.names, self.slow, self.seen, self.known = [], [], {}, {}
 
     def sum(self):
@@ -393,7 +395,7 @@ class Tests:
             for name in os.listdir(self.room):
                 if name.startswith("seen-"):
                     os.remove(f"{self.room}/{name}")
-            self.names = [name for name in tables_of(self.crate) if not self.fails(name, None)]
+            self.names = [name for name in self.tables or tables_of(self.crate) if not self.fails(name, None)]
         self.slow = re.findall(r"(?m)^test (\S+) \.\.\. (?!ok$)", said)
         for name in self.names:
             path = f"{self.room}/seen-{name}"
@@ -463,10 +465,10 @@ class Tests:
 # ---- the run
 
 
-def built(copy, crate, chosen):
+def built(copy, crate, chosen, tables=None):
     """Builds the tests of a crate, and tries them on its own functions; nothing if they do not pass with all switches off. A switch
     that does not compile is taken out, and all is built anew."""
-    tests = Tests(copy, crate)
+    tests = Tests(copy, crate, tables)
     while True:
         state = copy.state
         said = tests.build()
