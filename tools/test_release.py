@@ -54,6 +54,12 @@ class Releases(unittest.TestCase):
         self.assertEqual(done.returncode, 0, done.stdout)
         return os.path.join(room, os.listdir(room)[0])
 
+    def qualify(self, *words):
+        """Returns the status and the lines of a qualification by a command, with the system's tools alone."""
+        room = tempfile.mkdtemp(dir=self.room)
+        done = run(*words, "--out", room, cwd=room, env=bare(self.room))
+        return done.returncode, done.stdout.split("\n")
+
     def test_made(self):
         """Whether a release has its six files, and their checksums are those that it names."""
         self.assertEqual(self.made.returncode, 0, self.made.stdout)
@@ -107,7 +113,7 @@ class Releases(unittest.TestCase):
         self.assertNotEqual(run("sha256sum", "--quiet", "-c", "SHA256SUMS", cwd=copy).returncode, 0)
 
     def test_prefix(self):
-        """Whether the archive installs without a kit, decides an example, and is removed without a rest."""
+        """Whether the archive installs without a kit, decides an example, passes its qualification, and is removed without a rest."""
         files, prefix = self.unpacked(), os.path.join(self.room, "a prefix")
         done = run(os.path.join(files, "install.sh"), prefix, env=bare(self.room))
         self.assertEqual(done.returncode, 0, done.stdout)
@@ -117,6 +123,9 @@ class Releases(unittest.TestCase):
         self.assertIn(WANTED + "\n", done.stdout)
         with open(os.path.join(prefix, "lib", "pkgconfig", "welungad.pc"), encoding="utf-8") as file:
             self.assertIn("prefix=" + prefix.replace(" ", "\\ ") + "\n", file.read())
+        if shutil.which("python3", path=bare(self.room)["PATH"]):
+            status, lines = self.qualify(os.path.join(prefix, "bin", "welungad-qualify"))
+            self.assertEqual((status, lines[0]), (0, "Qualification of Welungad: passed"), lines)
         done = run(os.path.join(prefix, "share", "welungad", "uninstall"), prefix, env=bare(self.room))
         self.assertEqual(done.returncode, 0, done.stdout)
         self.assertFalse(os.path.exists(prefix))
@@ -132,7 +141,8 @@ class Releases(unittest.TestCase):
         self.assertFalse(os.path.exists(prefix))
 
     def test_wheel(self):
-        """Whether the wheel installs without network into an environment of its own, and decides an example."""
+        """Whether the wheel installs without network into an environment of its own, decides an example, and passes its qualification, but
+        not with another byte in its library."""
         place = os.path.join(self.room, "environment")
         done = run(sys.executable, "-m", "venv", place)
         if done.returncode:
@@ -143,6 +153,14 @@ class Releases(unittest.TestCase):
         words = f"import welungad; print(welungad.run(['test'], open({EXAMPLE!r}, 'rb').read())[1].decode())"
         done = run(python, "-c", words, cwd=self.room, env=bare(self.room))
         self.assertIn(WANTED, done.stdout)
+        status, lines = self.qualify(python, "-m", "welungad.qualify")
+        self.assertEqual((status, lines[0]), (0, "Qualification of Welungad: passed"), lines)
+        folder = run(python, "-c", "import welungad; print(welungad.__path__[0])", cwd=self.room, env=bare(self.room)).stdout.strip()
+        with open(os.path.join(folder, "libwelungad.so"), "ab") as file:
+            file.write(b"\n")
+        status, lines = self.qualify(python, "-m", "welungad.qualify")
+        self.assertEqual((status, lines[0]), (1, "Qualification of Welungad: FAILED"), lines)
+        self.assertTrue([it for it in lines if it.startswith("failed  files: welungad/libwelungad.so: ")], lines)
 
     @unittest.skipUnless(shutil.which("R"), "no R")
     def test_r_package(self):
