@@ -111,6 +111,7 @@ default_layout <- function(n, graph = NULL) {
 checked_layout <- function(layout, graph) {
   n <- length(graph$names)
   if (is.null(layout)) return(default_layout(n, graph))
+  check_counted_rows(layout, hypothesis_keys(graph), "layout")
   rows <- if (is.data.frame(layout)) own_row_names(layout) else rownames(layout)
   layout <- as.matrix(layout)
   rownames(layout) <- rows
