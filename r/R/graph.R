@@ -210,6 +210,7 @@ say <- function(class, text) {
 # A graph, also of another package. Stops if one of this package was changed to what no call would read.
 check_graph <- function(graph) {
   if (!inherits(graph, "welungad_graph")) return(graph_from(graph, "graph"))
+  check_read(graph)
   check_parts(graph, c("names", "labels", "components", "read", "written"), "a graph")
   for (component in graph$components) check_parts(component, c("share", "weights", "edges"), "a component of a graph")
   if (!identical(graph$labels, graph$names)) {
@@ -276,9 +277,10 @@ print.welungad_graph <- function(x, ...) {
   invisible(x)
 }
 
-# The weights and the edges from row to column, zeros as points.
+# The weights and the edges from row to column, zeros as points, and edges that were left out as question marks.
 graph_table <- function(component, labels) {
   edges <- unname(component$edges)
+  edges[is.na(edges)] <- "?"
   edges[edges == "0"] <- "."
   table <- cbind(labels, unname(component$weights), edges)
   colnames(table) <- c("from", "weight", labels)

@@ -325,8 +325,10 @@ row_sentence <- function(i, component, graph) {
   given <- unname(component$edges[i, ])
   what <- paste("The edges from", graph$labels[i])
   texts <- vapply(given, canonical_edge, "", USE.NAMES = FALSE)
-  total <- sum_of(numbers_of(texts))
-  if (is_quotients(total)) return(sprintf("%s sum to %s, which is above 1.", what, text_of(total)))
+  if (any(grepl(epsilon, texts, fixed = TRUE))) {
+    total <- Reduce(poly_add, lapply(texts, entry_polynomial))
+    return(sprintf("%s sum to %s, which is above 1.", what, polynomial_text(total)))
+  }
   sum_sentence(what, given, argument = "transitions", doubles = doubles_in(graph))
 }
 

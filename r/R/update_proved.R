@@ -3,29 +3,24 @@
 
 has_update <- function() .Call(C_welungad_has_update)
 
-# The graphs before the first removal and after each, if the calls take the library and it has this call; NULL else.
-proved_graphs <- function(graph, deleted) if (welungad_way() == "library" && has_update()) graphs_of_library(graph, deleted)
-
-# The same as the call prints them; NULL if one is too wide for it. A graph of fractions is the one before without one hypothesis, which takes
-# less time than all removals anew. The library reads no quotients in epsilon, and no fractions with parts above 10^18: then all are made anew.
+# The graphs before the first removal and after each. A graph of fractions is the one before without one hypothesis, which takes less time than
+# all removals anew. The library reads no quotients in epsilon, and no fractions with parts above 10^18: then all are made anew.
 graphs_of_library <- function(graph, deleted) {
   graphs <- list(graph)
   for (k in seq_along(deleted)) {
     before <- graphs[[k]]
-    updated <- if (!has_epsilon(before)) updated_by_library(before, match(graph$names[deleted[k]], before$names))
-    if (is.null(updated)) updated <- updated_by_library(graph, deleted[seq_len(k)])
-    if (is.null(updated)) return(NULL)
-    graphs[[k + 1L]] <- updated
+    one <- function() updated_by_library(before, match(graph$names[deleted[k]], before$names))
+    updated <- if (!has_epsilon(before)) tryCatch(one(), welungad_refusal = function(refusal) NULL)
+    graphs[[k + 1L]] <- if (is.null(updated)) updated_by_library(graph, deleted[seq_len(k)]) else updated
   }
   graphs
 }
 
-# A graph after removals in this order; NULL if the numbers of it or of a removal are too large.
+# A graph after removals in this order. A refusal if a number of it is too wide.
 updated_by_library <- function(graph, deleted) {
   text <- case_text(graph)
   answer <- .Call(C_welungad_update, charToRaw(text), as.integer(deleted))
   lines <- whole_lines(answer$text)
-  if (answer$status %in% 4:5 && is_refusal(answer$status, lines)) return(NULL)
   if (answer$status != 0L && is_refusal(answer$status, lines)) refuse_case(answer$status, lines, handed(text, graph))
   left <- setdiff(seq_along(graph$names), deleted)
   read <- if (answer$status == 0L) read_update(lines, graph, left)
