@@ -167,7 +167,7 @@ test_that("each refusal has advice", {
     "keeper fault",
     "no memory"
   )
-  advice <- vapply(lines, welungad:::advice, "")
+  advice <- vapply(lines, welungad:::advice, "", command = "test")
   expect_equal(names(advice)[!nzchar(advice)], character())
   expect_true(all(grepl("^[A-Z].*[.]$", advice)))
   expect_match(advice[["malformed: line 3: zero divisor"]], "other than 0")
@@ -176,13 +176,13 @@ test_that("each refusal has advice", {
 
 test_that("what to do is read off the page, for the command that was asked", {
   rows <- welungad:::rows_of_page(c("## A kind", "", "All of these begin with `bad: case: `.", "", "| Rest of the line | Cause | Cure |", "|---|---|---|",
-    "| `p of NAME` | Beyond. | Use `p` as [here](X.md#p). |", "", "Each line begins with `no: A: ` or `no: B: `, and names it.", "",
+    "| `p of NAME` | Beyond. | Use `p` as [here](X.md#p). |", "", "Each line begins with `no: a: ` or `no: b: `, and names it.", "",
     "| Rest of the line | Broken condition |", "|---|---|", "| `N short`, `over ..` | It is broken. |", "", "## Another", "", "| Line | Cause | Cure |",
     "|---|---|---|", "| `kind` for `test`, `canon --to csv` | Lacks. | Add (it). |", "", "| Other | Cure |", "|---|---|", "| `other` | None. |"))
   expect_identical(lapply(rows, `[[`, "cure"), list("Use p as here.", "It is broken.", "Add (it)."))
   expect_identical(lapply(rows, `[[`, "commands"), list(character(), character(), c("test", "canon")))
   expect_identical(rows[[1]]$patterns, "^bad: case: p of .*$")
-  expect_identical(vapply(rows[[2]]$patterns, grepl, NA, x = "no: A: 7 short", USE.NAMES = FALSE), c(TRUE, FALSE, FALSE, FALSE))
+  expect_identical(vapply(rows[[2]]$patterns, grepl, NA, x = "no: a: 7 short", USE.NAMES = FALSE), c(TRUE, FALSE, FALSE, FALSE))
   kind <- vapply(c("test", "stages", "study", "canon", ""), function(command) welungad:::advice("malformed: kind", command), "")
   expect_identical(unname(kind[1:4]), c("Add a line p; a case with stages is for stages or study.",
     "Add the line stages with what each hypothesis spends, or use another command.", "Leave out the lines arrive: a study takes looks.", "Use --to json."))
