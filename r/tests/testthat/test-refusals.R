@@ -169,7 +169,7 @@ test_that("each refusal has advice", {
   )
   advice <- vapply(lines, welungad:::advice, "", command = "test")
   expect_equal(names(advice)[!nzchar(advice)], character())
-  expect_true(all(grepl("^[A-Z].*[.]$", advice)))
+  expect_true(all(grepl("^[A-Za-z].*[.]$", advice)))
   expect_match(advice[["malformed: line 3: zero divisor"]], "other than 0")
   expect_match(advice[["limit: case: part alpha"]], "whole numbers up to 10,000")
 })
