@@ -46,6 +46,7 @@ fi
 rm -rf "$out/library" "$out/r"
 mkdir "$out/library"
 cp -R "$here/../r" "$out/r"
+cp "$here/../docs/REFUSALS.md" "$out/r/inst/REFUSALS.md"
 WELUNGAD_INCLUDE=$here/../c WELUNGAD_LIB=$here/../c/out R CMD INSTALL --no-docs --library="$out/library" "$out/r" >"$out/install.log" 2>&1 || {
     cat "$out/install.log"
     exit 1

@@ -59,6 +59,7 @@ fi
 room=$(mktemp -d)
 trap 'rm -rf "$room"' EXIT
 cp -R "$here" "$room/welungad"
+cp "$top/docs/REFUSALS.md" "$room/welungad/inst/REFUSALS.md"
 cd "$room"
 
 # An installation with a folder that has no library fails.

@@ -9,7 +9,7 @@ ask <- function(words, case, proof = raw()) {
 # An answer that was read, with its `lines`.
 taken <- function(answer, command, case) {
   lines <- whole_lines(answer$text)
-  if (answer$status >= 2L && is_refusal(answer$status, lines)) refuse_case(answer$status, lines, case)
+  if (answer$status >= 2L && is_refusal(answer$status, lines)) refuse_case(answer$status, lines, case, command)
   read <- if (answer$status <= 1L && length(lines)) read_answer(command, answer$status, lines, case)
   if (is.null(read)) stop(answerer(), " gives no whole answer of Welungad to ", command, call. = FALSE)
   read$lines <- lines

@@ -128,6 +128,19 @@ own_row_names <- function(x) {
   if (!identical(as.integer(rows), seq_len(nrow(x)))) whole_text(rows)
 }
 
+# Stops at a data frame whose rows are numbered 1, 2 and so on, for hypotheses that are called so in another order. The numbers could be the
+# names of the rows, as read.csv(row.names = 1) makes them, and R does not tell these from counts. A column hypothesis says what is meant.
+check_counted_rows <- function(x, keys, what) {
+  if (!is.data.frame(x) || "hypothesis" %in% names(x) || nrow(x) < 2 || !is.null(row_names_of(x, what))) return(invisible())
+  counts <- whole_text(seq_len(nrow(x)))
+  for (key in keys) {
+    if (setequal(key, counts) && !identical(key, counts)) {
+      stop_at(what, "the rows are numbered 1, 2 and so on, and the hypotheses are called ", listed(key, 4L), ": give a ",
+        if (length(x) == 1) "vector with these names, or a column hypothesis" else "matrix whose rows have these names")
+    }
+  }
+}
+
 column_of <- function(x, j, what) {
   read <- exact_of(x[[j]], paste0(what, ": column ", quoted(names(x)[j])))
   if (length(read) != nrow(x)) stop_at(what, "column ", quoted(names(x)[j]), " is a table of its own")

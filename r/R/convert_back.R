@@ -56,15 +56,6 @@ edges_at <- function(edges, epsilon) {
   value <- fraction(small$read)
   if (length(small) != 1 || is.na(value) || value <= 0 || value >= 1) stop_at("epsilon", "a number between 0 and 1 is needed")
   out <- double_of(as.vector(edges))
-  out[has] <- as_double(values_of(numbers_of(edges[has]), value))
+  out[has] <- as_double(values_of(edges[has], value))
   matrix(out, nrow(edges), dimnames = dimnames(edges))
-}
-
-# The values of quotients in epsilon at a number.
-values_of <- function(x, value) do.call(c, lapply(unclass(x), function(q) polynomial_at(q$n, value) / polynomial_at(q$d, value)))
-
-polynomial_at <- function(p, value) {
-  out <- gmp::as.bigq(0)
-  for (i in rev(seq_along(p))) out <- out * value + p[i]
-  out
 }

@@ -1,5 +1,5 @@
-# Numbers with an infinitesimal epsilon: quotients of polynomials with exact coefficients, in lowest terms. The program prints
-# the limits of weights; the package needs whole weights and edges for updated graphs alone.
+# Numbers with an infinitesimal epsilon: quotients of polynomials with exact coefficients, as texts are read and written. The package computes
+# with none: it puts the quotients of updated graphs in lowest terms, shows the sum of a row, and gives limits and values at a number.
 
 epsilon <- "\\epsilon"
 
@@ -14,15 +14,6 @@ padded <- function(p, n) if (length(p) < n) c(p, gmp::as.bigq(rep(0, n - length(
 poly_add <- function(a, b) {
   n <- max(length(a), length(b))
   trimmed(padded(a, n) + padded(b, n))
-}
-
-poly_multiply <- function(a, b) {
-  out <- gmp::as.bigq(rep(0, length(a) + length(b) - 1L))
-  for (i in seq_along(a)) {
-    at <- i - 1L + seq_along(b)
-    out[at] <- out[at] + a[i] * b
-  }
-  trimmed(out)
 }
 
 is_zero_poly <- function(p) length(p) == 1 && p[1] == 0
@@ -63,53 +54,21 @@ quotient <- function(n, d = gmp::as.bigq(1)) {
   list(n = n / lowest, d = d / lowest)
 }
 
-quotients <- function(parts) structure(parts, class = "welungad_quotients")
-
-is_quotients <- function(x) inherits(x, "welungad_quotients")
-
-`[.welungad_quotients` <- function(x, i) quotients(unclass(x)[i])
-
-`[<-.welungad_quotients` <- function(x, i, value) {
-  parts <- unclass(x)
-  parts[i] <- unclass(as_quotients(value))
-  quotients(parts)
+# The limits of numbers as epsilon goes to 0 from above.
+limits_of <- function(texts) {
+  if (!any(grepl(epsilon, texts, fixed = TRUE))) return(fraction(texts))
+  do.call(c, lapply(quotients_of(texts), function(q) q$n[1] / q$d[1]))
 }
 
-as_quotients <- function(x) {
-  if (is_quotients(x)) return(x)
-  x <- gmp::as.bigq(x)
-  quotients(lapply(seq_along(x), function(i) quotient(x[i])))
+# The values of numbers with epsilon, if it is this number.
+values_of <- function(texts, value) {
+  do.call(c, lapply(quotients_of(texts), function(q) polynomial_at(q$n, value) / polynomial_at(q$d, value)))
 }
 
-add_quotients <- function(a, b) quotient(poly_add(poly_multiply(a$n, b$d), poly_multiply(b$n, a$d)), poly_multiply(a$d, b$d))
-
-Ops.welungad_quotients <- function(e1, e2) {
-  a <- unclass(as_quotients(e1))
-  b <- unclass(as_quotients(e2))
-  minus <- function(x) list(n = x$n * gmp::as.bigq(-1), d = x$d)
-  one <- switch(.Generic,
-    "+" = add_quotients,
-    "-" = function(x, y) add_quotients(x, minus(y)),
-    "*" = function(x, y) quotient(poly_multiply(x$n, y$n), poly_multiply(x$d, y$d)),
-    "/" = function(x, y) quotient(poly_multiply(x$n, y$d), poly_multiply(x$d, y$n)),
-    "==" = function(x, y) is_zero_poly(add_quotients(x, minus(y))$n),
-    stop("not defined for quotients in epsilon: ", .Generic, call. = FALSE)
-  )
-  out <- if (length(a) == 0 || length(b) == 0) list() else unname(mapply(one, a, b, SIMPLIFY = FALSE))
-  if (.Generic == "==") as.logical(unlist(out)) else quotients(out)
-}
-
-# The sum of numbers of either kind; NA if one is.
-sum_of <- function(x) {
-  if (!is_quotients(x)) return(if (length(x) == 0) gmp::as.bigq(0) else if (anyNA(x)) gmp::NA_bigq_ else sum(x))
-  quotients(list(Reduce(add_quotients, unclass(x), quotient(gmp::as.bigq(0)))))
-}
-
-# The limits as epsilon goes to 0 from above.
-limits_of <- function(x) {
-  if (!is_quotients(x)) return(x)
-  if (length(x) == 0) return(gmp::as.bigq(character()))
-  do.call(c, lapply(unclass(x), function(q) q$n[1] / q$d[1]))
+polynomial_at <- function(p, value) {
+  out <- gmp::as.bigq(0)
+  for (i in rev(seq_along(p))) out <- out * value + p[i]
+  out
 }
 
 # ---- texts
@@ -132,13 +91,12 @@ entry_polynomial <- function(text) {
   trimmed(out)
 }
 
-# Numbers from texts: fractions if no text has an epsilon, else quotients.
-numbers_of <- function(texts) {
-  if (!any(grepl(epsilon, texts, fixed = TRUE))) return(fraction(texts))
-  quotients(lapply(texts, function(text) {
+# The quotients of texts.
+quotients_of <- function(texts) {
+  lapply(texts, function(text) {
     parts <- regmatches(text, regexec("^[(]?([^()]*)[)]?/[(]([^()]*)[)]$", text))[[1]]
     if (length(parts)) quotient(entry_polynomial(parts[2]), entry_polynomial(parts[3])) else quotient(entry_polynomial(text))
-  }))
+  })
 }
 
 polynomial_text <- function(p) {
@@ -160,9 +118,4 @@ quotient_text <- function(q) {
   for (i in seq_along(parts)) scale <- scale * gmp::as.bigq(gmp::denominator(parts[i] * scale))
   above <- polynomial_text(q$n * scale)
   paste0(if (length(q$n) == 1) above else paste0("(", above, ")"), "/(", polynomial_text(q$d * scale), ")")
-}
-
-# The texts of numbers of either kind.
-text_of <- function(x) {
-  if (is_quotients(x)) vapply(unclass(x), quotient_text, "") else as.character(x)
 }

@@ -1,9 +1,13 @@
-# The class of numbers as they are read: vectors, or matrices by columns.
+# The class of numbers as they are read: vectors, or matrices by columns. It is one of S4, since R's own loops, `match` and `unlist` walk through
+# the parts of a list, whatever its class. Such an object they refuse, and R compares it with fractions of gmp by the method below.
+methods::setClass("welungad_exact", slots = c(parts = "list"))
 
+blank_exact <- methods::new("welungad_exact")
+
+# Sets the slot of a copy, since methods::new takes a hundred times longer.
 new_exact <- function(given, read, rule, names = NULL, dim = NULL, dimnames = NULL) {
-  parts <- list(given = given, read = read, rule = rule, names = names, dim = dim, dimnames = dimnames)
-  class(parts) <- "welungad_exact"
-  parts
+  attr(blank_exact, "parts") <- list(given = given, read = read, rule = rule, names = names, dim = dim, dimnames = dimnames)
+  blank_exact
 }
 
 length.welungad_exact <- function(x) length(x$read)
@@ -118,22 +122,33 @@ c.welungad_exact <- function(...) {
 }
 
 # A part of several numbers that were read, one after the other.
-joined <- function(numbers, part) unlist(lapply(numbers, function(it) unclass(it)[[part]]), use.names = FALSE)
+joined <- function(numbers, part) unlist(lapply(numbers, function(it) it@parts[[part]]), use.names = FALSE)
 
 # ---- comparisons
 
 # Comparisons are exact; NA for texts that are no numerals. What is computed would be other numbers than those that were read.
-Ops.welungad_exact <- function(e1, e2) {
-  if (!.Generic %in% c("==", "!=", "<", "<=", ">", ">=")) {
+compared <- function(generic, one, other) {
+  if (!generic %in% c("==", "!=", "<", "<=", ">", ">=")) {
     stop("numbers that were read are compared, and not computed with: gmp::as.bigq(as.character(x)) has their fractions", call. = FALSE)
   }
-  sides <- lapply(list(e1, e2), exact_of, what = .Generic)
+  sides <- lapply(list(one, other), exact_of, what = generic)
   counts <- vapply(sides, length, 1L)
-  if (counts[1] != counts[2] && !1L %in% counts) stop_at(.Generic, whole_text(counts[2]), " given for ", count_of(counts[1], "number"))
+  if (counts[1] != counts[2] && !1L %in% counts) stop_at(generic, whole_text(counts[2]), " given for ", count_of(counts[1], "number"))
   if (0L %in% counts) return(logical())
   values <- lapply(sides, function(it) fraction(it$read))
-  shaped(as.logical(do.call(.Generic, values)), sides[[which.max(counts)]])
+  shaped(as.logical(do.call(generic, values)), sides[[which.max(counts)]])
 }
+
+# R takes this one where the other side has no method of its own.
+Ops.welungad_exact <- function(e1, e2) compared(.Generic, e1, e2)
+
+# And these where it has, as fractions of gmp do.
+methods::setMethod("Ops", methods::signature("welungad_exact", "ANY"), function(e1, e2) compared(.Generic, e1, e2))
+methods::setMethod("Ops", methods::signature("ANY", "welungad_exact"), function(e1, e2) compared(.Generic, e1, e2))
+methods::setMethod("Ops", methods::signature("welungad_exact", "welungad_exact"), function(e1, e2) compared(.Generic, e1, e2))
+
+# `match` and `%in%` would compare the texts of these numbers with those that R writes for others.
+mtfrm.welungad_exact <- function(x) stop("numbers that were read are compared by ==, as in any(x == 0.5)", call. = FALSE)
 
 # Numbers are the same if they have the same value, or the same text with epsilon.
 duplicated.welungad_exact <- function(x, incomparables = FALSE, ...) {
@@ -165,6 +180,9 @@ summary.welungad_exact <- function(object, ...) {
   counts <- table(factor(object$rule, unique(object$rule)))
   data.frame(rule = names(counts), numbers = as.vector(counts), stringsAsFactors = FALSE)
 }
+
+# R shows an object of S4 by this method.
+methods::setMethod("show", "welungad_exact", function(object) print(object))
 
 print.welungad_exact <- function(x, ...) {
   if (length(x) == 0) cat("No numbers\n")

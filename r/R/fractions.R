@@ -66,3 +66,6 @@ exact_decimal <- function(x) {
   if (places > 0) text <- paste0(text, ".", substr(digits, cut + 1L, nchar(digits)))
   if (x < 0) paste0("-", text) else text
 }
+
+# The sum of fractions; NA if one is.
+sum_of <- function(x) if (length(x) == 0) gmp::as.bigq(0) else if (anyNA(x)) gmp::NA_bigq_ else sum(x)

@@ -9,6 +9,8 @@ graph_create <- function(hypotheses, transitions, hyp_names = NULL, labels = NUL
   names <- names_for(given, labels)
   check_labels(names, labels)
   keys <- unique(list(given, labels, names))
+  check_counted_rows(hypotheses, keys, "hypotheses")
+  check_counted_rows(transitions, keys, "transitions")
   weights <- arranged(weights, keys, "hypotheses")
   edges <- arranged_square(edges, keys, "transitions")
   component <- list(share = "1", weights = number_texts(weights, "hypotheses"),
@@ -108,6 +110,7 @@ graph_entangle <- function(..., shares) {
 
 # The shares in the order of the graphs, by the names of both if the shares have names.
 arranged_shares <- function(shares, graphs) {
+  check_counted_rows(shares, list(names(graphs)), "shares")
   shares <- exact_vector(shares, "shares")
   if (length(shares) != length(graphs)) stop_at("shares", "one share is needed for each graph")
   if (is.null(shares$names)) return(shares)
@@ -160,6 +163,7 @@ case_of <- function(graph, p, alpha) {
   level <- if (identical(alpha, 0.025)) level_at_first else exact_of(alpha, "alpha")
   case <- list(alpha = level)
   if (!is.null(p)) {
+    check_counted_rows(p, hypothesis_keys(graph), "p")
     case$p <- read_p(arranged(exact_vector(p, "p"), hypothesis_keys(graph), "p"), graph)
     if (length(case$p) == 0) refuse(3L, "malformed: case: p count 0", where = "p: no p-values are given")
     p <- number_texts(case$p, "p")
@@ -206,6 +210,7 @@ say <- function(class, text) {
 # A graph, also of another package. Stops if one of this package was changed to what no call would read.
 check_graph <- function(graph) {
   if (!inherits(graph, "welungad_graph")) return(graph_from(graph, "graph"))
+  check_read(graph)
   check_parts(graph, c("names", "labels", "components", "read", "written"), "a graph")
   for (component in graph$components) check_parts(component, c("share", "weights", "edges"), "a component of a graph")
   if (!identical(graph$labels, graph$names)) {
@@ -272,9 +277,10 @@ print.welungad_graph <- function(x, ...) {
   invisible(x)
 }
 
-# The weights and the edges from row to column, zeros as points.
+# The weights and the edges from row to column, zeros as points, and edges that were left out as question marks.
 graph_table <- function(component, labels) {
   edges <- unname(component$edges)
+  edges[is.na(edges)] <- "?"
   edges[edges == "0"] <- "."
   table <- cbind(labels, unname(component$weights), edges)
   colnames(table) <- c("from", "weight", labels)

@@ -154,7 +154,7 @@ graph_hung_wang_2010 <- function(nu, tau, omega, names = NULL) {
 
 # A family of hypotheses: their number, their weights and their names, of which one is enough. Without weights they are equal.
 family_of <- function(size, weights, names) {
-  if (!is.null(weights)) weights <- exact_vector(weights, "weights")
+  weights <- weights_read(weights, names)
   if (is.null(names) && !is.null(weights)) names <- weights$names
   n <- size_of(list(size = if (!is.null(size)) count_given(size, "size"), weights = if (!is.null(weights)) length(weights),
     names = if (!is.null(names)) length(names)))
@@ -172,6 +172,13 @@ size_of <- function(sizes) {
   sizes[[1]]
 }
 
+# The weights as they were read, for hypotheses with these names; NULL if none are given.
+weights_read <- function(weights, names) {
+  if (is.null(weights)) return(NULL)
+  if (!is.null(names)) check_counted_rows(weights, list(texts_in(names, "names")), "weights")
+  exact_vector(weights, "weights")
+}
+
 # The weights in the order of the names, as texts; equal ones if none are given.
 weights_given <- function(weights, names, n) {
   if (is.null(weights)) return(rep(part_text(n), n))
@@ -183,7 +190,7 @@ weights_given <- function(weights, names, n) {
 two_families <- function(primary, secondary, weights, names) {
   primary <- count_given(primary, "primary")
   secondary <- count_given(secondary, "secondary")
-  if (!is.null(weights)) weights <- exact_vector(weights, "weights")
+  weights <- weights_read(weights, names[seq_len(primary)])
   one <- seq_len(primary)
   two <- primary + seq_len(secondary)
   size_of(list(primary = primary, weights = if (!is.null(weights)) length(weights)))

@@ -17,7 +17,7 @@ parts_elsewhere <- c(
 
 # The part of this name; an error if there is none. `empty` has the names of parts that may be absent.
 part_of <- function(x, name, empty = character()) {
-  parts <- unclass(x)
+  parts <- parts_in(x)
   at <- match(name, names(parts))
   if (!is.na(at)) return(.subset2(parts, at))
   if (name %in% empty) return(NULL)
@@ -45,6 +45,8 @@ part_of <- function(x, name, empty = character()) {
 `$.welungad_summary` <- function(x, name) part_of(x, name)
 
 `$.welungad_exact` <- function(x, name) part_of(x, name)
+
+parts_in <- function(x) if (isS4(x)) x@parts else unclass(x)
 
 # A result's part by a text in two brackets; by a number, as a list has it.
 element_of <- function(x, i) if (is.character(i) && length(i) == 1 && !is.na(i)) part_of(x, i) else .subset2(unclass(x), i)

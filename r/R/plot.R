@@ -41,7 +41,11 @@ plot.welungad_update <- function(x, layout = NULL, cex = 0.8, labels = NULL, v_p
   old <- graphics::par(mfrow = c(ceiling(n / columns), columns))
   on.exit(graphics::par(old))
   deleted <- look$labels[match(x$deleted, x$initial_graph$labels)]
-  for (k in seq_len(n)) draw_graph(x$graphs[[k]], x$initial_graph, look, titles_without(deleted[seq_len(k - 1)]), cex)
+  for (k in seq_len(n)) {
+    titles <- titles_without(deleted[seq_len(k - 1)])
+    if (k > 1 && x$held == "weights") titles <- paste0(titles, ", edges left out")
+    draw_graph(x$graphs[[k]], x$initial_graph, look, titles, cex)
+  }
   invisible(x)
 }
 
@@ -95,7 +99,7 @@ planned <- function(graph, all, nodes, cex, is_crowded) {
     is_crowded = is_crowded || are_crowded(arrows, boxes, nodes$at, plan$unit, cex))
 }
 
-edges_in <- function(graph) sum(vapply(graph$components, function(it) sum(it$edges != "0"), 1L))
+edges_in <- function(graph) sum(vapply(graph$components, function(it) sum(it$edges != "0", na.rm = TRUE), 1L))
 
 # ---- places
 
@@ -111,6 +115,7 @@ default_layout <- function(n, graph = NULL) {
 checked_layout <- function(layout, graph) {
   n <- length(graph$names)
   if (is.null(layout)) return(default_layout(n, graph))
+  check_counted_rows(layout, hypothesis_keys(graph), "layout")
   rows <- if (is.data.frame(layout)) own_row_names(layout) else rownames(layout)
   layout <- as.matrix(layout)
   rownames(layout) <- rows

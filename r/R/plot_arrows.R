@@ -24,7 +24,7 @@ arrows_of <- function(graph, all, nodes, is_joined) {
 
 # What is written for each number that an edge has.
 texts_of_edges <- function(edges) {
-  values <- setdiff(unique(unlist(edges)), "0")
+  values <- setdiff(unique(unlist(edges)), c("0", NA))
   stats::setNames(lapply(values, short_text), values)
 }
 

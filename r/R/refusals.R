@@ -1,113 +1,78 @@
 # Refusals: what to do about each line that the proved call refuses with, and the R condition that carries it.
 
-# The table. Left: a regular expression that fits the line. Right: one sentence that says what to do, the cure of
-# docs/REFUSALS.md if that page has one. The first row that fits is taken.
-refusal_table <- c(
-  # words
-  "^usage: word [0-9]+$" = "The command help lists the commands with their options.",
+# What to do is the cure of docs/REFUSALS.md, of which the installation keeps a copy. The page has one table a section. The first cell of a row
+# has the lines that the row is about, in backquotes, where a word in capitals and `..` denote any text. A sentence above a table may say how all its
+# lines begin, and `for` in a cell which commands it is about. The other cells are the cause and the cure, or the condition that is broken.
 
-  # sums, whose amount is added
-  "^malformed: case: share sum$" = "Write thirds as 1/3: three times 0.333334 is more than 1.",
-  "^malformed: case: weight sum component " = "Write thirds as 1/3: three times 0.333334 is more than 1.",
-  "^malformed: case: row sum of " = "Write 1-\\epsilon beside \\epsilon, and thirds as 1/3.",
-  "^malformed: case: spend sum of " = "Make the levels of this hypothesis sum to at most its own level.",
+# The rows of a page: the patterns of their lines, the commands that they are about, none of which is named by most, and what to do.
+rows_of_page <- function(page) {
+  rows <- list()
+  begins <- head <- ""
+  for (line in page) {
+    cells <- trimws(strsplit(gsub("^\\||\\|$", "", line), "|", fixed = TRUE)[[1]])
+    if (startsWith(line, "## ")) begins <- ""
+    if (grepl("begins? with `", line)) begins <- in_backquotes(sub("[,.] .*", "", sub(".* begins? with ", "", line)))
+    if (!startsWith(line, "|")) head <- ""
+    else if (!nzchar(head)) head <- cells[1]
+    else if (head %in% c("Line", "Rest of the line") && grepl("`", cells[1], fixed = TRUE)) rows <- c(rows, list(row_of_page(cells, begins)))
+  }
+  rows
+}
 
-  # the case
-  "^malformed: case: no hypothesis$" = "Name at least one hypothesis.",
-  "^malformed: case: name " = "Choose a name of 1 to 32 ASCII letters, digits, underscores, points or hyphens.",
-  "^malformed: case: duplicate name " = "Give each hypothesis a name of its own.",
-  "^malformed: case: no component$" = "Give at least one graph.",
-  "^malformed: case: alpha$" = "Choose a level above 0 and at most 1.",
-  "^malformed: case: share component " = "Choose a share of at least 0.",
-  "^malformed: case: weight count component " = "Give one weight for each hypothesis.",
-  "^malformed: case: weight of " = "Choose a weight of at least 0.",
-  "^malformed: case: self edge of " = "The diagonal of a matrix is 0.",
-  "^malformed: case: repeated edge " = "Give each pair of hypotheses at most one edge.",
-  "^malformed: case: edge " = "Choose an edge from 0 to 1.",
-  "^malformed: case: mixed$" = "Leave out one of the two: stages, or p-values that are of no stage.",
-  "^malformed: case: p count " = "Give one p-value for each hypothesis.",
-  "^malformed: case: p missing " = "Give 1 if there is no p-value.",
-  "^malformed: case: p of " = "Choose a p-value from 0 to 1.",
-  "^malformed: case: no stage$" = "Give at least one stage.",
-  "^malformed: case: spend count " = "Give one level for each stage.",
-  "^malformed: case: step [0-9]+ of " = "Let the weights of a table rise from step to step, each above 0 and at most 1.",
-  "^malformed: case: spend of " = "Choose levels of at least 0 that do not fall from a step of a table to the next.",
-  "^malformed: case: arrival [0-9]+ stage$" = "Choose a stage from 1 to the number of stages.",
-  "^malformed: case: arrival [0-9]+ repeated$" = "Give a hypothesis at most one p-value at each stage.",
-  "^malformed: case: arrival [0-9]+ p$" = "Choose a p-value from 0 to 1.",
-  "^malformed: kind$" = "Give what the command needs: a p-value for each hypothesis, or stages for the command stages.",
+row_of_page <- function(cells, begins) {
+  parts <- strsplit(cells[1], " for ", fixed = TRUE)[[1]]
+  lines <- as.vector(outer(begins, in_backquotes(parts[1]), paste0))
+  cure <- cells[min(3L, length(cells))]
+  list(
+    patterns = paste0("^", gsub("\\b[A-Z]+\\b|\\\\[.]\\\\[.]", ".*", gsub("([^A-Za-z0-9 :/])", "\\\\\\1", lines), perl = TRUE), "$"),
+    commands = if (length(parts) > 1) sub(" .*", "", in_backquotes(parts[2])) else character(),
+    cure = gsub("`", "", gsub("\\[([^]]*)\\]\\([^)]*\\)", "\\1", cure), fixed = TRUE)
+  )
+}
 
-  # a number of R that has no value, which this package refuses itself
+in_backquotes <- function(text) gsub("`", "", regmatches(text, gregexpr("`[^`]*`", text))[[1]], fixed = TRUE)
+
+page_read <- new.env(parent = emptyenv())
+
+# The rows of the copy of the page, which is read once; none if it is missing.
+page_rows <- function() {
+  if (is.null(page_read$rows)) {
+    page <- system.file("REFUSALS.md", package = "welungad")
+    page_read$rows <- if (nzchar(page)) rows_of_page(readLines(page, encoding = "UTF-8")) else list()
+  }
+  page_read$rows
+}
+
+# What R adds, since the page says how a case is written: a refusal of its own, and how R gives levels.
+own_advice <- c(
   "^malformed: number$" = "Give a finite number.",
-
-  # documents
-  "^malformed: record [0-9]+$" = "A file of looks belongs to the case that it was made for.",
-  "^malformed: json: syntax$" = "Correct the JSON: these bytes are not one JSON value.",
-  "^malformed: row [0-9]+ column [0-9]+: header$" = "Begin with hypothesis,weight,p and the names.",
-  "^malformed: row [0-9]+ column [0-9]+: records$" = "Give the sheet one row for each name of its header.",
-  "^malformed: row [0-9]+ column [0-9]+: width$" = "Give this row as many fields as the header has.",
-  "^malformed: row [0-9]+ column [0-9]+: name$" = "Keep the order of the header.",
-  "^malformed: proof line [0-9]+: " = "Use the evidence of this case, as it was printed.",
-  "^malformed: .*: unexpected$" = "Keep the order: alpha, hypotheses, p, component, weights, edge, stages, spend or table, arrive.",
-  "^malformed: .*: ended$" = "Add what is missing.",
-  "^malformed: .*: words$" = "Give this line the number of words that it needs.",
-  "^malformed: .*: shape$" = "Give this place the kind of JSON value that it needs, and only known keys.",
-  "^malformed: .*: not whole$" = "Write decimals as texts: \"0.025\".",
-  "^malformed: .*: unknown name$" = "Use the name of a hypothesis: names are case-sensitive.",
-  "^malformed: .*: whole number$" = "Write a whole number of 1 to 9 digits.",
-  "^malformed: .*: number$" = "Write 0.025, 1/40 or 2.5e-2; no percent sign, no decimal comma.",
-  "^malformed: .*: zero denominator$" = "Write a denominator other than 0.",
-  "^malformed: .*: expression$" = "Write 1/2, 1-\\epsilon or 1/2*\\epsilon^2.",
-  "^malformed: .*: divisor$" = "Divide by a plain number.",
-  "^malformed: .*: zero divisor$" = "Divide by a number other than 0.",
-
-  # limits
-  "^limit: (proof |commands )?bytes " = "Hand in at most 4,194,304 bytes.",
-  "^limit: closure " = "Ask for all sets of at most 16 hypotheses: test takes 64.",
-  "^limit: size " = "Choose a size from 1 to 64.",
-  "^limit: seed " = "Choose a seed below 2^48.",
-  "^limit: hypotheses " = "Give at most 64 hypotheses.",
-  "^limit: components " = "Give at most 8 graphs.",
-  "^limit: stages " = "Give at most 12 stages.",
-  "^limit: spend steps " = "Give a table at most 32 steps.",
-  "^limit: case: part alpha$" = paste("Alpha has at most four decimals, or is a fraction of whole numbers up to 10,000. Adjusted p-values",
-    "are the same at each alpha, and can be compared with any level."),
-  "^limit: case: part (p of|arrival) " = "Round the p-value up to a fraction whose denominator is at most 10^30.",
-  "^limit: case: part spend of .* stage " = paste("Give this hypothesis a table of levels by weight, whose numbers have parts up to 10^18:",
-    "rbind(\"1/2\" = c(..), \"1\" = c(..))."),
-  "^limit: case: part " = "Write a fraction whose numerator and denominator are at most 10^18.",
-  "^limit: .*: digits$" = "Write at most 38 digits, and round a p-value up.",
-  "^limit: .*: degree$" = "Use powers of \\epsilon up to 4.",
-  "^limit: .*: part$" = "Write the numbers of the edge with numerators and denominators of at most 10^18.",
-  "^limit: .*: depth$" = "Open at most 32 parentheses at a time.",
-
-  # evidence that fails
-  "^no: .*: repeated$" = "The step names a hypothesis that an earlier step named.",
-  "^no: .* negative$" = "A flow or an exit is below 0.",
-  "^no: .* exceeds$" = "A flow is more than what arrives at its hypothesis.",
-  "^no: .*: no level$" = "The weight that the flows prove is 0.",
-  "^no: .*: above level$" = "The p-value is above the weight that the flows prove, times alpha.",
-  "^no: .* short$" = "An exit is less than what the edges require.",
-  "^no: .* level above one$" = "The weight that the exits allow is above 1.",
-  "^no: .*: legal$" = "The p-value is at most the weight that the exits allow, times alpha.",
-
-  # runs and devices
-  "^too wide: " = "Use weights and edges with small common denominators: 1/3 in place of 0.3333333.",
-  "^read fault$" = "Look whether the file exists.",
-  "^keeper fault$" = "Look whether the file of looks can be opened and written, and call again.",
-  "^no memory$" = "Free memory, and call again."
+  "^limit: case: part spend of .* stage " = "In R a table is a matrix of levels by weight: rbind(\"1/2\" = c(..), \"1\" = c(..))."
 )
 
-# Returns the sentence that says what to do about a line, or "" if no row fits.
-advice <- function(line) {
-  fits <- vapply(names(refusal_table), grepl, logical(1), x = line)
-  if (any(fits)) unname(refusal_table[[which(fits)[1]]]) else ""
+# Returns the sentences that say what to do about a line that a command printed, or "" if no row fits. Without the command, what to do is given
+# for each one.
+advice <- function(line, command = "") {
+  own <- own_advice[vapply(names(own_advice), grepl, NA, x = line)]
+  paste(c(cure_of(line, command), own), collapse = " ")
+}
+
+cure_of <- function(line, command) {
+  # the kinds of a text occur in sheets, JSON and commands too, at other places
+  other <- sub("^(malformed|limit): (row [0-9]+ column [0-9]+|commands line [0-9]+|/[^ ]*): ", "\\1: line 1: ", line)
+  for (text in c(line, other)) {
+    rows <- Filter(function(row) any(vapply(row$patterns, grepl, NA, x = text)), page_rows())
+    own <- Filter(function(row) command %in% row$commands, rows)
+    if (length(own)) return(own[[1]]$cure)
+    if (length(rows) && length(rows[[1]]$commands) == 0) return(rows[[1]]$cure)
+    if (length(rows)) return(vapply(rows, function(row) paste0(listed(row$commands), ": ", row$cure), ""))
+  }
+  NULL
 }
 
 # Signals a refusal: a condition with its status, its line, the argument and the place that it is about, and a sentence that says
 # what to do.
-refuse <- function(status, line, amount = "", where = "") {
-  advice <- advice(line)
+refuse <- function(status, line, amount = "", where = "", command = "") {
+  advice <- advice(line, command)
   sentences <- c(amount, advice)
   head <- if (nzchar(where)) sprintf("%s (%s)", where, line) else sprintf("refused with status %d: %s", status, line)
   text <- paste0(c(head, sentences[nzchar(sentences)]), collapse = "\n  ")
@@ -117,8 +82,8 @@ refuse <- function(status, line, amount = "", where = "") {
 }
 
 # The refusal of a case that was handed in.
-refuse_case <- function(status, line, case) {
-  refuse(status, line, amount_of(line, case), where_of(line, case))
+refuse_case <- function(status, line, case, command = "") {
+  refuse(status, line, amount_of(line, case), where_of(line, case), command)
 }
 
 # ---- the argument and the place
@@ -325,8 +290,10 @@ row_sentence <- function(i, component, graph) {
   given <- unname(component$edges[i, ])
   what <- paste("The edges from", graph$labels[i])
   texts <- vapply(given, canonical_edge, "", USE.NAMES = FALSE)
-  total <- sum_of(numbers_of(texts))
-  if (is_quotients(total)) return(sprintf("%s sum to %s, which is above 1.", what, text_of(total)))
+  if (any(grepl(epsilon, texts, fixed = TRUE))) {
+    total <- Reduce(poly_add, lapply(texts, entry_polynomial))
+    return(sprintf("%s sum to %s, which is above 1.", what, polynomial_text(total)))
+  }
   sum_sentence(what, given, argument = "transitions", doubles = doubles_in(graph))
 }
 

@@ -43,6 +43,7 @@ stage_plan <- function(graph, levels, alpha, at, stages) {
 
 # The weights at which the levels of the hypotheses count, as they are given.
 weights_at <- function(graph, at) {
+  check_counted_rows(at, hypothesis_keys(graph), "at")
   from <- exact_vector(at, "at")
   if (is.null(from$names) && length(from) == 1) from <- from[rep(1L, length(graph$names))]
   from <- arranged(from, hypothesis_keys(graph), "at", length(graph$names))

@@ -1,5 +1,10 @@
 \name{as_exact}
 \alias{as_exact}
+\alias{welungad_exact-class}
+\alias{Ops,welungad_exact,ANY-method}
+\alias{Ops,ANY,welungad_exact-method}
+\alias{Ops,welungad_exact,welungad_exact-method}
+\alias{show,welungad_exact-method}
 \title{Numbers as they are read}
 \description{
 Shows the exact number that the package reads for each number that it is given.
@@ -43,7 +48,9 @@ An object of class \code{welungad_exact} with the parts \code{given}, \code{read
 \code{rule}. It keeps names, and the rows and columns of a matrix. \code{[}, \code{[[}, \code{c}, \code{rep}, \code{names},
 \code{unname}, \code{dim}, \code{t}, \code{is.na}, \code{sort} and \code{unique} work as for other vectors. So do assignments such as
 \code{x["H1"] <- 1 / 3}, by which the new number is read as any other; its number of elements has to be 1, or that of the places.
-Comparisons are exact, and arithmetic is an error. \code{as.character} and \code{format} give the texts, \code{summary} gives how many
+Comparisons are exact, with numbers of each class that \code{as_exact} takes, on either side; arithmetic is an error. So are
+\code{\%in\%} and \code{match}, for which \code{any(x == value)} is exact, and \code{for (v in x)}: write
+\code{for (v in as.list(x))}, or use \code{lapply}. \code{as.character} and \code{format} give the texts, \code{summary} gives how many
 numbers were read by each rule, and \code{as.data.frame} a table.
 }
 \seealso{

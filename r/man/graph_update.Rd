@@ -15,19 +15,21 @@ graph_steps(x)
   \item{x}{a result of \code{\link{graph_test}}.}
 }
 \details{
-The program prints weights and no edges, so the package computes the updated graphs itself, exactly. \code{graph_update} compares
-each weight of each graph with the weight that the program prints for the same removals. \code{graph_steps} compares the weight
-of each hypothesis at its rejection, and the weights in the end, with those of the decision. Both stop if one differs.
+The package computes no updated graph: the C library prints the weights and the edges of up to 64 hypotheses. A library of an
+earlier release and the program print weights alone, so weights and edges are read off the weights that they print after further
+removals. Then they lack their infinitely small parts, and the edges of more than 16 hypotheses are left out: they are \code{NA}. Such a
+graph is printed and drawn, and no call takes it. \code{print} of an update says which way it was made.
 
-With more than 16 hypotheses the program prints no weights for the removal of a hypothesis whose weight is 0. Then
-\code{compared} is \code{FALSE}.
+\code{graph_steps} compares the weight of each hypothesis at its rejection, and the weights in the end, with those of the decision,
+and stops if one differs. A number that is too wide is a refusal.
 
 With epsilon an updated graph can have edges that are quotients. The program does not read such a graph, so give all removals
 to one call.
 }
 \value{
 An object of class \code{welungad_update} with the parts \code{initial_graph}, \code{updated_graph}, \code{deleted}, \code{graphs} (the
-graphs before the first removal and after each) and \code{compared}. \code{plot} draws all graphs; \code{print(x, all = TRUE)}
+graphs before the first removal and after each) and \code{compared}, which is \code{TRUE} since all weights are those of the proved
+call. \code{plot} draws all graphs; \code{print(x, all = TRUE)}
 shows them, and \code{as.data.frame} has their weights.
 }
 \references{

@@ -4,6 +4,7 @@
 #include <Rinternals.h>
 
 SEXP welungad_read_test(SEXP lines, SEXP names);
+SEXP welungad_read_update(SEXP text, SEXP names, SEXP count);
 SEXP welungad_read_sets(SEXP lines, SEXP names, SEXP has_weights);
 
 #endif

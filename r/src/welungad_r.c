@@ -224,6 +224,7 @@ static const R_CallMethodDef calls[] = {
   {"welungad_doubles", (DL_FUNC)&welungad_doubles, 1},
   {"welungad_next", (DL_FUNC)&welungad_next, 2},
   {"welungad_read_test", (DL_FUNC)&welungad_read_test, 2},
+  {"welungad_read_update", (DL_FUNC)&welungad_read_update, 3},
   {"welungad_read_sets", (DL_FUNC)&welungad_read_sets, 3},
   {NULL, NULL, 0},
 };

@@ -14,6 +14,9 @@ each_way <- function(code) {
 # the environment variable WELUNGAD_TEST_ALL is set.
 share_of <- function(way, all, few) if (way == "library" || nzchar(Sys.getenv("WELUNGAD_TEST_ALL"))) all else few
 
+# Whether the calls by this way print updated graphs: those of a library with welungad_update.
+prints_graphs <- function(way) way == "library" && welungad:::has_update()
+
 # Runs code with another program in place of Welungad.
 with_program <- function(program, code) {
   force(program)

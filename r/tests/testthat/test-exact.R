@@ -188,3 +188,80 @@ test_that("names end with their last letter", {
   })
 })
 
+
+test_that("exact numbers are compared with those of each class, from either side", {
+  x <- c(as_exact(c(a = 1 / 3, b = 1 / 2)), c = "0.10")
+  wanted <- c(a = FALSE, b = TRUE, c = FALSE)
+  for (half in list(0.5, "1/2", "0.50", as_exact("2/4"), gmp::as.bigq(1, 2))) {
+    expect_identical(x == half, wanted, info = class(half))
+    expect_identical(half == x, wanted, info = class(half))
+    expect_identical(x != half, !wanted)
+    expect_identical(x < half, c(a = TRUE, b = FALSE, c = TRUE))
+    expect_identical(half > x, c(a = TRUE, b = FALSE, c = TRUE))
+    expect_identical(x >= half, wanted)
+    expect_identical(half <= x, wanted)
+  }
+  thirds <- gmp::as.bigq(c(1, 1, 1), c(3, 2, 10))
+  expect_true(all(x == thirds))
+  expect_true(all(thirds == x))
+  expect_identical(as_exact(c(0, 1)) == gmp::as.bigz(1), c(FALSE, TRUE))
+  expect_identical(gmp::as.bigz(1) == as_exact(c(0, 1)), c(FALSE, TRUE))
+  expect_error(gmp::as.bigq(c(1, 1), 2:3) == x, "^==: 3 given for 2 numbers$")
+  for (wrong in list(factor("1/2"), as.Date("2026-01-01"), TRUE, NULL)) {
+    expect_error(x == wrong, "^==: numbers are doubles")
+    expect_error(wrong == x, "^==: numbers are doubles")
+  }
+})
+
+test_that("exact numbers are not computed with, from either side", {
+  x <- as_exact(c(1 / 3, 1 / 2))
+  fault <- "^numbers that were read are compared, and not computed with"
+  for (other in list(x, 1, gmp::as.bigq(1, 2), gmp::as.bigz(1))) {
+    expect_error(x + other, fault)
+    expect_error(other * x, fault)
+  }
+  expect_error(-x, fault)
+  expect_error(!x, fault)
+})
+
+test_that("what R does with a vector by itself is refused for exact numbers, and never walks their parts", {
+  x <- as_exact(c(a = 1 / 3, b = 1 / 2))
+  expect_error(for (v in x) NULL, "invalid for() loop sequence", fixed = TRUE)
+  refused <- "requires vector arguments|no method for coercing|are compared by =="
+  expect_error(x %in% 0.5, refused)
+  expect_error(0.5 %in% x, refused)
+  expect_error(match("1/2", x), refused)
+  expect_error(is.element(0.5, x), refused)
+  expect_error(setdiff(x, 0.5), refused)
+  expect_error(union(x, x), refused)
+  expect_error(intersect(x, x), refused)
+  expect_error(as.vector(x), refused)
+  expect_error(matrix(x, 1), refused)
+  expect_error(nchar(x), refused)
+  expect_error(rbind(x, x), refused)
+  expect_error(ifelse(x == 1 / 2, x, 0), "incompatible types")
+  expect_error(as.numeric(x), "cannot coerce|cannot be coerced")
+  for (call in list(sum, max, prod, round, abs, exp)) expect_error(call(x))
+  expect_error(c(gmp::as.bigq(1, 2), x))
+  expect_error(welungad:::mtfrm.welungad_exact(x), "^numbers that were read are compared by ==, as in any[(]x == 0.5[)]$")
+  expect_identical(unlist(list(x)), list(x))
+  # what walks the numbers
+  walked <- character()
+  for (v in as.list(x)) walked <- c(walked, v$read)
+  expect_identical(walked, c("1/3", "1/2"))
+  expect_identical(vapply(x, format, ""), c(a = "1/3", b = "1/2"))
+  expect_identical(unlist(lapply(x, function(v) v == 0.5)), c(a = FALSE, b = TRUE))
+  expect_identical(mapply(function(v, w) v == w, x, c(1 / 3, 0.4)), c(a = TRUE, b = FALSE))
+  expect_identical(as.character(Filter(function(v) v > 0.4, x)), c(b = "1/2"))
+  expect_identical(Reduce(c, x)$read, x$read)
+  expect_identical(sort(x, decreasing = TRUE)$read, c("1/2", "1/3"))
+  expect_identical(order(x), 1:2)
+  expect_true(identical(x, as_exact(c(a = 1 / 3, b = 1 / 2))))
+  expect_false(identical(x, rev(x)))
+  expect_output(print(x), "least denominator")
+  expect_output(methods::show(x), "least denominator")
+  file <- tempfile(fileext = ".rds")
+  saveRDS(x, file)
+  expect_identical(readRDS(file), x)
+  unlink(file)
+})

@@ -75,9 +75,6 @@ numbered <- function(frame, labels) {
   frame
 }
 
-# The order of rows, or its reverse where it leads to the numbers 1, 2 and so on: these are counts, whatever the hypotheses are called.
-order_of_names <- function(labels, order) if (identical(labels[order], as.character(seq_along(labels)))) rev(order) else order
-
 # A data frame as it is read from a sheet, whose first column has the names of its rows. Only letters that each locale has are written.
 sheet_of <- function(frame) {
   if (any(grepl("[^ -~]", c(names(frame), row.names(frame), unlist(lapply(frame, as.character)))))) return(frame)
@@ -139,21 +136,14 @@ vector_forms <- list(
     structure(list(value = stats::setNames(double, labels)[order]), row.names = .set_row_names(length(labels)), class = c("tbl_df", "tbl", "data.frame"))
   },
   exact_frame = function(text, double, labels, order, name) data.frame(value = as_exact(stats::setNames(text, labels)[order])),
-  rows = function(text, double, labels, order, name) {
-    order <- order_of_names(labels, order)
-    numbered(data.frame(value = text[order], stringsAsFactors = FALSE), labels[order])
-  },
-  rows_of_doubles = function(text, double, labels, order, name) {
-    order <- order_of_names(labels, order)
-    numbered(column_of_name(data.frame(value = double[order]), name), labels[order])
-  },
+  rows = function(text, double, labels, order, name) numbered(data.frame(value = text[order], stringsAsFactors = FALSE), labels[order]),
+  rows_of_doubles = function(text, double, labels, order, name) numbered(column_of_name(data.frame(value = double[order]), name), labels[order]),
   sorted = function(text, double, labels, order, name) {
     if (!setequal(labels, seq_along(labels))) return(stats::setNames(double, labels)[order])
     frame <- column_of_name(data.frame(value = double[match(seq_along(labels), labels)]), name)
-    frame[order_of_names(as.character(seq_along(labels)), order), , drop = FALSE]
+    frame[order, , drop = FALSE]
   },
   sheet = function(text, double, labels, order, name) {
-    order <- order_of_names(labels, order)
     sheet_of(column_of_name(data.frame(value = text[order], row.names = labels[order], stringsAsFactors = FALSE), name))
   },
   long_sheet = function(text, double, labels, order, name) {
@@ -191,11 +181,9 @@ square_forms <- list(
     frame
   },
   numbered = function(text, double, labels, order, name) {
-    order <- order_of_names(labels, order)
     numbered(frame_of(lapply(rev(order), function(j) double[order, j]), labels[rev(order)]), labels[order])
   },
   sheet = function(text, double, labels, order, name) {
-    order <- order_of_names(labels, order)
     frame <- frame_of(lapply(rev(order), function(j) text[order, j]), labels[rev(order)])
     row.names(frame) <- labels[order]
     sheet_of(frame)
@@ -252,18 +240,32 @@ read_back <- function(x) {
 
 same <- function(texts, decided) all(as.logical(exact_fractions(texts) == gmp::as.bigq(unname(decided))))
 
-# Whether a case, given in some classes, was decided as it was given; the classes if not.
+# Whether the rows of what was given are numbered 1, 2 and so on, for hypotheses that are called so in another order: as names and as counts
+# the numbers mean different cases.
+is_unclear <- function(x, labels) {
+  counts <- as.character(seq_along(labels))
+  is.data.frame(x) && !"hypothesis" %in% names(x) && identical(attr(x, "row.names"), seq_along(labels)) &&
+    !any(vapply(x, function(own) length(names(own)) > 0, NA)) && setequal(labels, counts) && !identical(labels, counts)
+}
+
+# Whether a case, given in some classes, was decided as it was given, or is an error if its rows are unclear; the classes if not.
 holds <- function(case) {
   labels <- case$labels
   weights <- given_in(vector_forms, case$weights, labels, "weight")
   edges <- given_in(square_forms, case$edges, labels)
   p <- given_in(vector_forms, case$p, labels, "p")
-  x <- suppressWarnings(graph_test(graph_create(weights$value, edges$value, hyp_names = labels), p$value, case$alpha$double))
+  x <- tryCatch(suppressWarnings(graph_test(graph_create(weights$value, edges$value, hyp_names = labels), p$value, case$alpha$double)), error = identity)
+  forms <- paste(weights$form, edges$form, p$form)
+  if (any(vapply(list(weights, edges, p), function(given) is_unclear(given$value, labels), NA))) {
+    fault <- "^(hypotheses|transitions|p): the rows are numbered 1, 2 and so on, and the hypotheses are called "
+    return(if (inherits(x, "error") && grepl(fault, conditionMessage(x))) "" else paste("not told:", forms))
+  }
+  if (inherits(x, "error")) return(paste(forms, conditionMessage(x)))
   own <- read_back(x)
   shown <- as.data.frame(x, exact = TRUE)
   fits <- own$alpha == "1/40" && same(case$weights$text, own$weights[labels]) && same(as.vector(case$edges$text), own$edges[labels, labels]) &&
     same(case$p$text, own$p[labels]) && same(case$p$text, shown$p[match(labels, shown$hypothesis)])
-  if (fits) "" else paste(weights$form, edges$form, p$form)
+  if (fits) "" else forms
 }
 
 told <- function(code) inherits(tryCatch(code, error = identity), "error")

@@ -41,6 +41,46 @@ test_that("whole numbers that are the names of rows are names", {
   })
 })
 
+test_that("rows that are only numbered are an error if the hypotheses are called 1, 2 and so on in another order", {
+  each_way(function(way) {
+    labels <- c("3", "1", "2")
+    edges <- matrix(c("0", "0", "0", "1/2", "0", "0", "1/2", "1", "0"), 3)
+    graph <- graph_create(stats::setNames(c("1/2", "1/3", "1/6"), labels), edges)
+    told <- "the rows are numbered 1, 2 and so on, and the hypotheses are called 3, 1, 2: give a "
+    vector <- paste0(told, "vector with these names, or a column hypothesis")
+    plain <- data.frame(p = c(0.004, 0.9, 0.03))
+    # as a file has them that was written with the names of the rows
+    read <- utils::read.csv(text = "dose,p\n1,0.004\n2,0.9\n3,0.03", row.names = 1)
+    for (p in list(plain, read, structure(plain, class = c("tbl_df", "tbl", "data.frame")))) {
+      for (call in list(graph_test, graph_bounds, graph_simes, graph_test_closure, graph_evidence, graph_canon)) {
+        expect_error(call(graph, p), paste0("p: ", vector), fixed = TRUE)
+      }
+    }
+    expect_error(graph_create(data.frame(weight = c(1 / 2, 1 / 3, 1 / 6)), edges, hyp_names = labels), paste0("hypotheses: ", vector), fixed = TRUE)
+    expect_error(graph_create(data.frame(weight = c(1 / 2, 1 / 3, 1 / 6)), `rownames<-`(edges, labels)), paste0("hypotheses: ", vector), fixed = TRUE)
+    levels <- stats::setNames(list(0.002, 0.001, 0.003), labels)
+    expect_error(graph_stages(graph, levels, at = data.frame(at = c(1, 1 / 2, 1))), paste0("at: ", vector), fixed = TRUE)
+    expect_error(graph_fallback(names = labels, weights = data.frame(weight = c(1 / 2, 1 / 3, 1 / 6))), paste0("weights: ", vector), fixed = TRUE)
+    graphs <- stats::setNames(list(graph, graph, graph), labels)
+    expect_error(graph_entangle(graphs, shares = data.frame(share = c(1 / 2, 1 / 3, 1 / 6))), paste0("shares: ", vector), fixed = TRUE)
+    # edges and places have a column beside
+    rows <- paste0(told, "matrix whose rows have these names")
+    square <- stats::setNames(as.data.frame(edges), labels)
+    expect_error(graph_create(c(1 / 2, 1 / 3, 1 / 6), square), paste0("transitions: ", rows), fixed = TRUE)
+    expect_error(plot(graph, layout = data.frame(x = 1:3, y = 0)), paste0("layout: ", rows), fixed = TRUE)
+    # what says which hypothesis is meant is taken
+    long <- data.frame(hypothesis = c("1", "2", "3"), p = plain$p)
+    for (p in list(stats::setNames(plain$p, 1:3), plain[c(3, 1, 2), , drop = FALSE], long, `row.names<-`(plain, c("1", "2", "3")),
+      `rownames<-`(as.matrix(plain), 1:3), stats::setNames(as.data.frame(t(plain$p)), 1:3))) {
+      expect_equal(graph_test(graph, p)$exact$p, c("3/100", "1/250", "9/10"))
+    }
+    # without names the order is that of the graph
+    expect_equal(graph_test(graph, plain$p)$exact$p, c("1/250", "9/10", "3/100"))
+    expect_equal(graph_test(graph_create(c(A = 1 / 2, B = 1 / 3, C = 1 / 6), edges), plain)$exact$p, c("1/250", "9/10", "3/100"))
+    expect_equal(graph_test(graph_create(c("1" = 1 / 2, "2" = 1 / 3, "3" = 1 / 6), edges), plain)$exact$p, c("1/250", "9/10", "3/100"))
+  })
+})
+
 test_that("many trials are rows, also if rows have the names of hypotheses", {
   each_way(function(way) {
     graph <- pair(c("1", "2"))

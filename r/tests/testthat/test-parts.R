@@ -10,7 +10,7 @@ test_that("graphs have their weights and edges as numbers", {
     expect_identical(names(graph), labels)
     expect_identical(dim(graph), c(2L, 2L))
     expect_identical(graph$names, c("low_dose", "B"))
-    expect_null(welungad:::graphs_without(graph, 2)[[2]]$written)
+    expect_null(welungad:::graphs_read(graph, 2)[[2]]$written)
     improved <- graph_gatekeeping_improved(2, 2)
     expect_identical(improved$transitions["H3", "H1"], "\\epsilon")
     expect_identical(entangled()$hypotheses, c(A = 0.5, B = 0.5, C = 0, D = 0))

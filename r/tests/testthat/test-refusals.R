@@ -103,7 +103,7 @@ test_that("what could mislead says what is meant", {
     spent <- refusal_of(graph_stages(graph, rep(list(c(.001525323, .023474677)), 2), at = 1))
     expect_equal(spent$line, "limit: case: part spend of H1 stage 1")
     expect_equal(spent$where, "levels: the level of H1 at stage 1 is a fraction of alpha with parts above 10,000")
-    expect_match(spent$advice, "Give this hypothesis a table of levels by weight, .*: rbind[(]\"1/2\" = c[(]..[)], \"1\" = c[(]..[)][)][.]$")
+    expect_match(spent$advice, "^Finer fractions need a table, which takes levels[.] In R a table is a matrix of levels by weight: rbind[(]\"1/2\" = c[(]..[)], \"1\" = c[(]..[)][)][.]$")
     tables <- rep(list(rbind("1/2" = c(.0007, .0117), "1" = c(.001525323, .023474677))), 2)
     expect_equal(graph_stages(graph, tables, at = 1)$plan$count, 2)
     # no graph, but something that has one
@@ -116,7 +116,7 @@ test_that("what could mislead says what is meant", {
     expect_equal(alpha$line, "limit: case: part alpha")
     expect_match(alpha$amount, "^1/40 is beside it[.]$")
     expect_equal(refusal_of(graph_test(graph, p, .02281))$amount, "")
-    expect_match(refusal_of(graph_test(graph, p, .02281))$advice, "Adjusted p-values are the same at each alpha, and can be compared with any level[.]$")
+    expect_match(refusal_of(graph_test(graph, p, .02281))$advice, ", or compare the adjusted p-values with any level[.]$")
     expect_error(graph_create(p, matrix(c(FALSE, TRUE, TRUE, FALSE), 2)), "^transitions: .* and not of class logical$")
     none <- refusal_of(graph_test(graph, numeric()))
     expect_equal(none[c("line", "where", "advice")], list(line = "malformed: case: p count 0", where = "p: no p-values are given", advice = "Give one p-value for each hypothesis."))
@@ -167,11 +167,28 @@ test_that("each refusal has advice", {
     "keeper fault",
     "no memory"
   )
-  advice <- vapply(lines, welungad:::advice, "")
+  advice <- vapply(lines, welungad:::advice, "", command = "test")
   expect_equal(names(advice)[!nzchar(advice)], character())
-  expect_true(all(grepl("^[A-Z].*[.]$", advice)))
+  expect_true(all(grepl("^[A-Za-z].*[.]$", advice)))
   expect_match(advice[["malformed: line 3: zero divisor"]], "other than 0")
-  expect_match(advice[["limit: case: part alpha"]], "four decimals")
+  expect_match(advice[["limit: case: part alpha"]], "whole numbers up to 10,000")
+})
+
+test_that("what to do is read off the page, for the command that was asked", {
+  rows <- welungad:::rows_of_page(c("## A kind", "", "All of these begin with `bad: case: `.", "", "| Rest of the line | Cause | Cure |", "|---|---|---|",
+    "| `p of NAME` | Beyond. | Use `p` as [here](X.md#p). |", "", "Each line begins with `no: a: ` or `no: b: `, and names it.", "",
+    "| Rest of the line | Broken condition |", "|---|---|", "| `N short`, `over ..` | It is broken. |", "", "## Another", "", "| Line | Cause | Cure |",
+    "|---|---|---|", "| `kind` for `test`, `canon --to csv` | Lacks. | Add (it). |", "", "| Other | Cure |", "|---|---|", "| `other` | None. |"))
+  expect_identical(lapply(rows, `[[`, "cure"), list("Use p as here.", "It is broken.", "Add (it)."))
+  expect_identical(lapply(rows, `[[`, "commands"), list(character(), character(), c("test", "canon")))
+  expect_identical(rows[[1]]$patterns, "^bad: case: p of .*$")
+  expect_identical(vapply(rows[[2]]$patterns, grepl, NA, x = "no: a: 7 short", USE.NAMES = FALSE), c(TRUE, FALSE, FALSE, FALSE))
+  kind <- vapply(c("test", "stages", "study", "canon", ""), function(command) welungad:::advice("malformed: kind", command), "")
+  expect_identical(unname(kind[1:4]), c("Add a line p; a case with stages is for stages or study.",
+    "Add the line stages with what each hypothesis spends, or use another command.", "Leave out the lines arrive: a study takes looks.", "Use --to json."))
+  expect_true(all(vapply(kind[1:4], grepl, NA, x = kind[[5]], fixed = TRUE)))
+  expect_identical(welungad:::advice("malformed: row 2 column 3: number"), welungad:::advice("malformed: line 2: number"))
+  expect_identical(welungad:::advice("no such line"), "")
 })
 
 test_that("the proved call answers as the program prints", {

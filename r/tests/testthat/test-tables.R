@@ -37,3 +37,22 @@ test_that("refusals name the places that the table says", {
   case <- list(text = "alpha 1/40\nhypotheses low_dose B\nweights 1/2 1/2\n", graph = graph)
   for (row in rows) expect_true(startsWith(welungad:::where_of(row[1], case), row[2]), info = paste(row[1], "is", welungad:::where_of(row[1], case)))
 })
+
+test_that("levels are taken in the order of their stages as the table says", {
+  rows <- lapply(rows_of_table("stage_labels.txt"), function(row) lapply(row, function(part) trimws(strsplit(part, ",", fixed = TRUE)[[1]])))
+  expect_gt(length(rows), 25)
+  each_way(function(way) {
+    graph <- graph_create(c(A = 1), matrix(0, 1, 1))
+    for (row in rows) {
+      levels <- seq_along(row[[1]]) / 1000
+      given <- matrix(levels, 1, dimnames = list("A", row[[1]]))
+      stages <- if (length(row[[2]])) row[[2]]
+      if (identical(row[[3]], "refused")) {
+        expect_error(graph_stages(graph, given, stages = stages), info = row[[1]])
+        next
+      }
+      ordered <- levels[match(row[[3]], row[[1]])]
+      expect_identical(graph_stages(graph, given, stages = stages)$case, graph_stages(graph, list(A = ordered))$case, info = row[[1]])
+    }
+  })
+})

@@ -58,7 +58,7 @@ test_that("an edge that comes back whole is lost", {
 test_that("the graphs of a decision hold its weights", {
   each_way(function(way) {
     x <- graph_test(diabetes(), c(0.018, 0.01, 0.105, 0.006))
-    steps <- with_program("/bin/false", graph_steps(x))
+    steps <- graph_steps(x)
     expect_equal(steps$deleted, c("H2", "H1", "H4"))
     expect_length(steps$graphs, 4)
     expect_equal(weights_of(steps$updated_graph), c(H3 = "1"))
@@ -66,21 +66,47 @@ test_that("the graphs of a decision hold its weights", {
   })
 })
 
-test_that("a removal for which the program prints no weights is not called compared", {
+test_that("above 16 hypotheses the program leaves edges out", {
   each_way(function(way) {
     graph <- graph_catalogue("fixed-sequence", 17)
     update <- graph_update(graph, "H2")
-    prints_updates <- way == "library" && welungad:::has_update()
-    expect_equal(update$compared, prints_updates)
-    sentence <- "Not all weights could be compared with the proved call: it prints none for these removals."
-    expect_equal(any(grepl(sentence, format(update), fixed = TRUE)) || any(grepl(sentence, capture.output(print(update)), fixed = TRUE)), !prints_updates)
-    expect_true(graph_update(graph, c("H1", "H2"))$compared)
+    expect_true(update$compared)
+    # H2 had no weight before it was removed
+    expect_equal(weights_of(update$updated_graph), c(H1 = "1", stats::setNames(rep("0", 15), paste0("H", 3:17))))
+    after <- graph_update(graph, c("H1", "H2"))
+    expect_equal(weights_of(after$updated_graph), c(H3 = "1", stats::setNames(rep("0", 14), paste0("H", 4:17))))
+    edges <- after$updated_graph$components[[1]]$edges
+    if (prints_graphs(way)) {
+      expect_equal(edges["H3", "H4"], "1")
+      return(expect_output(print(after), "Each weight and each edge is the one that the proved call prints.", fixed = TRUE))
+    }
+    expect_true(all(is.na(edges[row(edges) != col(edges)])))
+    expect_output(print(after), "The edges after removals are left out", fixed = TRUE)
+    expect_output(print(after), "H3 +1 +[.] +[?] +[?]")
+    expect_error(graph_test(after$updated_graph, rep(0.1, 15)), "an updated graph that was read without the C library lacks its edges: ", fixed = TRUE)
+    expect_error(graph_update(after$updated_graph, 1), "^graph: an updated graph that was read")
+    picture <- tempfile(fileext = ".pdf")
+    grDevices::pdf(picture)
+    on.exit(unlink(picture))
+    expect_silent(plot(after))
+    grDevices::dev.off()
+    expect_true(is.data.frame(as.data.frame(after)))
+    expect_true(is.data.frame(as.data.frame(after$updated_graph)))
+    # 16 are read
+    expect_equal(graph_update(graph_catalogue("fixed-sequence", 16), "H2")$updated_graph$components[[1]]$edges["H1", "H3"], "1")
   })
 })
 
 test_that("an updated graph whose edges are quotients in epsilon is not read by the program", {
   each_way(function(way) {
-    after <- graph_update(graph_catalogue("improved-parallel", 2, 2), "H3")$updated_graph
+    update <- graph_update(graph_catalogue("improved-parallel", 2, 2), "H3")
+    after <- update$updated_graph
+    if (!prints_graphs(way)) {
+      # the limit of (1 - e) / (2 - e)
+      expect_equal(after$components[[1]]$edges["H4", "H1"], "1/2")
+      expect_output(print(update), "without its infinitely small part")
+      return(expect_error(graph_test(after, c(0.1, 0.2, 0.3)), "lacks the infinitely small parts: give all removals to one call", fixed = TRUE))
+    }
     expect_equal(after$components[[1]]$edges["H4", "H1"], "(1-\\epsilon)/(2-\\epsilon)")
     refusal <- refusal_of(graph_test(after, c(0.1, 0.2, 0.3)))
     expect_match(refusal$line, ": divisor$")
@@ -106,17 +132,67 @@ test_that("hypotheses are removed by name, label, position and logical vector", 
   })
 })
 
-test_that("quotients in epsilon are exact", {
-  q <- welungad:::numbers_of(c("1-\\epsilon", "\\epsilon", "1/2*\\epsilon^2"))
-  text <- welungad:::text_of
-  expect_equal(text(q), c("1-\\epsilon", "\\epsilon", "1/2*\\epsilon^2"))
-  expect_equal(text(q[1] + q[2]), "1")
-  expect_equal(text(q[2] / (q[2] * q[1])), "1/(1-\\epsilon)")
-  expect_equal(text(q[3] / q[2]), "1/2*\\epsilon")
-  expect_equal(text(1 - q[1]), "\\epsilon")
-  expect_true((q[1] - 1 + q[2]) == 0)
-  for (quotient in c("1/(2-\\epsilon)", "(1-\\epsilon)/(2-\\epsilon)", "-1/(2-\\epsilon)", "(1+2*\\epsilon^2)/(3+\\epsilon)")) {
-    expect_equal(text(welungad:::numbers_of(quotient)), quotient)
+test_that("numbers with epsilon are read and written exactly", {
+  text <- function(texts) vapply(welungad:::quotients_of(texts), welungad:::quotient_text, "")
+  for (number in c("1-\\epsilon", "\\epsilon", "1/2*\\epsilon^2", "1/(2-\\epsilon)", "(1-\\epsilon)/(2-\\epsilon)", "-1/(2-\\epsilon)",
+    "(1+2*\\epsilon^2)/(3+\\epsilon)")) {
+    expect_equal(text(number), number)
   }
-  expect_equal(as.character(welungad:::limits_of(q[1] / (1 + q[1]))), "1/2")
+  expect_equal(text("(\\epsilon)/(\\epsilon-\\epsilon^2)"), "1/(1-\\epsilon)")
+  expect_equal(as.character(welungad:::limits_of(c("(1-\\epsilon)/(2-\\epsilon)", "1/3", "\\epsilon"))), c("1/2", "1/3", "0"))
+  expect_equal(as.character(welungad:::values_of("(1-\\epsilon)/(2-\\epsilon)", gmp::as.bigq(1, 2))), "1/3")
+})
+
+# A row of edges with a small common denominator; with epsilon a part of one edge goes to a hypothesis that had none.
+random_row <- function(n, i, with_epsilon) {
+  parts <- sample(0:3, n, replace = TRUE)
+  parts[i] <- 0
+  texts <- ifelse(parts == 0, "0", paste0(parts, "/", max(1, sum(parts) + sample(0:1, 1))))
+  free <- setdiff(which(parts == 0), i)
+  some <- which(parts > 0)
+  if (with_epsilon && length(free) && length(some)) {
+    small <- sample(c("\\epsilon", "\\epsilon^2"), 1)
+    texts[free[1]] <- small
+    texts[some[1]] <- paste0(texts[some[1]], "-", small)
+  }
+  texts
+}
+
+random_graph <- function(n, with_epsilon) {
+  parts <- sample(0:4, n, replace = TRUE)
+  weights <- paste0(parts, "/", max(1, sum(parts) + sample(0:1, 1)))
+  graph_create(weights, t(vapply(seq_len(n), random_row, character(n), n = n, with_epsilon = with_epsilon)))
+}
+
+# A graph of fractions, or a third of the time with epsilon; a quarter are two graphs with shares.
+random_case <- function(k) {
+  with_epsilon <- k %% 3 == 0
+  n <- sample(2:(if (with_epsilon) 4 else 6), 1)
+  graph <- random_graph(n, with_epsilon)
+  if (k %% 4 == 0) graph_entangle(graph, random_graph(n, FALSE), shares = c("1/3", "2/3")) else graph
+}
+
+test_that("updated graphs are those of the formula, edge by edge, after each prefix of an order", {
+  each_way(function(way) {
+    set.seed(90)
+    prints <- prints_graphs(way)
+    compared <- 0
+    for (k in seq_len(share_of(way, if (prints) 400 else 120, 8))) {
+      graph <- random_case(k)
+      order <- sample(length(graph$names))
+      update <- tryCatch(graph_update(graph, order), welungad_refusal = identity)
+      if (inherits(update, "welungad_refusal")) {
+        expect_match(update$line, "^too wide: ")
+        next
+      }
+      own <- graphs_by_formula(graph, order)
+      for (step in seq_along(own)[-1]) {
+        wanted <- own[[step]]$components
+        if (!prints) wanted <- limits_of_components(wanted)
+        expect_identical(update$graphs[[step]]$components, wanted, info = paste(k, step))
+      }
+      compared <- compared + 1
+    }
+    expect_gt(compared, k / 2)
+  })
 })
