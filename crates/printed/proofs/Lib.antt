@@ -1,6 +1,7 @@
 pub mod BoundsPrinted
 pub mod CanonReadBack
 pub mod CataloguePrinted
+pub mod EvidenceConfirmed
 pub mod FilledCases
 pub mod GateCases
 pub mod NamedGraphs

@@ -1,6 +1,7 @@
 pub mod Bounds
 pub mod Canon
 pub mod Catalogue
+pub mod Confirmed
 pub mod Rules
 pub mod Sets
 pub mod Simes

@@ -2,6 +2,7 @@
 ghost use Rattle.printed.specs.Bounds.{BoundsAreOfTheClosedTest};
 ghost use Rattle.printed.specs.Canon.{CanonIsReadAsTheCase, CanonTellsCasesApart};
 ghost use Rattle.printed.specs.Catalogue.{CatalogueIsOfTheNamedGraphs};
+ghost use Rattle.printed.specs.Confirmed.{EvidenceIsConfirmedByCheck};
 ghost use Rattle.printed.specs.Rules.{HolmGraphsAreTestedByHolm, SequencesAreTestedInOrder, FallbacksAreTestedByFallback};
 ghost use Rattle.printed.specs.Rules.{GatesAreTestedByGatekeeping};
 ghost use Rattle.printed.specs.Simes.{SimesReportsAreOfTheSimesTest};
@@ -15,6 +16,13 @@ ghost use Rattle.printed.specs.Weights.{WeightsAreOfTheIntersections};
 pub fn canon_is_read_as_the_case()
     ensures back { CanonIsReadAsTheCase }
     ensures apart { CanonTellsCasesApart }
+{}
+
+/// What `evidence` prints with status 0, by any priority, is confirmed by `check` on the same bytes of the case, if it has at most
+/// 4,194,304 bytes. The only answer of `check` is `yes` with status 0. It lists the hypotheses of the steps in their order, and
+/// keeps the others.
+pub fn evidence_is_confirmed_by_check()
+    ensures { EvidenceIsConfirmedByCheck }
 {}
 
 /// What `simes` prints with status 0 names as rejected exactly the hypotheses that the closed test of weighted Simes tests
