@@ -2,7 +2,7 @@ mod Answers
 pub mod ByTheRules
 mod Near
 mod Neighbours
-mod Ordered
+pub mod Ordered
 mod Quarters
 mod Readable
 mod Steps
