@@ -16,12 +16,12 @@ use Rattle.sequential.specs.declared.priority.Priority.{Priority}
 use Rattle.graph_cli.specs.Accepted.{case_in, accepted}
 use Rattle.graph_cli.specs.Check.{said_of, check_stage}
 use Rattle.graph_cli.specs.Commands.{needs_of, check_needs, case_call, check_call, call_of}
-use Rattle.graph_cli.specs.Laws.{PrintsEvidence, ReportsCase, stepped, retained}
+use Rattle.graph_cli.specs.Laws.{PrintsEvidence, stepped, retained}
 use Rattle.graph_cli.specs.Outcome.{AskFor, outcome}
 use Rattle.graph_cli.proofs.ClosedReports.{not_done}
 use Rattle.graph_cli.proofs.EvidenceReports.{evidence_closed_test}
 use Rattle.graph_cli.proofs.OneAnswer.{has_one_answer}
-use Rattle.printed.specs.Confirmed.{confirmation, IsConfirmed, EvidenceIsConfirmedByCheck}
+use Rattle.printed.specs.Confirmed.{confirmation, EvidenceIsConfirmedByCheck}
 use Rattle.printed.proofs.CanonReadBack.{one_content}
 
 -- `check` takes the case that `evidence` took

@@ -1,4 +1,5 @@
 pub mod BoundsPrinted
+pub mod CanonAccepted
 pub mod CanonReadBack
 pub mod CataloguePrinted
 pub mod EvidenceConfirmed

@@ -25,8 +25,8 @@ pub record IsConfirmed (words : List (List ℕ)) (case : List ℕ) (c : Content)
   pub answered : IsAnswerOf (outcome words (Some case) (Some text)) (confirmation c prints.evidence)
   pub only : (b : Answer) → IsAnswerOf (outcome words (Some case) (Some text)) b → b ≡ confirmation c prints.evidence
 
--- The text of an answer with status 0 to words that request `evidence`, by any priority, is confirmed by `check` for the same bytes, if it isn't longer than
--- an input may be.
+-- Words that request `evidence`, by any priority, have an answer with status 0, whose text isn't longer than an input may be. `check` confirms this text
+-- for the same bytes of the case.
 abbrev pub EvidenceIsConfirmedByCheck : Type 0
 EvidenceIsConfirmedByCheck =
     (words others : List (List ℕ)) (format : Encoding) (priority : Priority) (file : ℕ) (case : List ℕ) (proof : Option (List ℕ)) (a : Answer)

@@ -1,3 +1,4 @@
+pub mod Accepted
 pub mod Bounds
 pub mod Canon
 pub mod Catalogue

@@ -1,4 +1,5 @@
 //! Laws of what is printed. Each function states laws, and does nothing.
+ghost use Rattle.printed.specs.Accepted.{CanonIsAnsweredAsTheCase};
 ghost use Rattle.printed.specs.Bounds.{BoundsAreOfTheClosedTest};
 ghost use Rattle.printed.specs.Canon.{CanonIsReadAsTheCase, CanonTellsCasesApart};
 ghost use Rattle.printed.specs.Catalogue.{CatalogueIsOfTheNamedGraphs};
@@ -18,8 +19,15 @@ pub fn canon_is_read_as_the_case()
     ensures apart { CanonTellsCasesApart }
 {}
 
-/// What `evidence` prints with status 0, by any priority, is confirmed by `check` on the same bytes of the case, if it has at most
-/// 4,194,304 bytes. The only answer of `check` is `yes` with status 0. It lists the hypotheses of the steps in their order, and
+/// What `canon` prints with status 0 is accepted in place of the case, if it has at most 4,194,304 bytes. Each command that reads
+/// a case has the same answers on the printed text, read in its format, as on the bytes of the case. (A case of fewer bytes may
+/// have a canonical text of more, which is then refused as too long.)
+pub fn canon_is_answered_as_the_case()
+    ensures { CanonIsAnsweredAsTheCase }
+{}
+
+/// What `evidence` prints with status 0, by any priority, is confirmed by `check`, if it has at most 4,194,304 bytes. On the same
+/// bytes of the case, the only answer of `check` is `yes` with status 0. It lists the hypotheses of the steps in their order, and
 /// keeps the others.
 pub fn evidence_is_confirmed_by_check()
     ensures { EvidenceIsConfirmedByCheck }

@@ -6,8 +6,10 @@
 //! - `canon_is_read_as_the_case`: what `canon` prints in a format is read in that format as the case that was read, and as no
 //!   other. Two cases have the same text in a format exactly if they are the same case. A sheet doesn't hold its level, so this is
 //!   stated of sheets with the same level.
-//! - `evidence_is_confirmed_by_check`: if what `evidence` prints has at most 4,194,304 bytes, `check` on it and on the same case
-//!   has one answer only: `yes` with status 0, with the hypotheses of the steps as listed and the others as kept.
+//! - `canon_is_answered_as_the_case`: if what `canon` prints has at most 4,194,304 bytes, each command that reads a case has the
+//!   same answers on it as on the case.
+//! - `evidence_is_confirmed_by_check`: if what `evidence` prints has at most 4,194,304 bytes, `check` for the same case answers
+//!   `yes` with status 0, and nothing else. It lists the hypotheses of the steps, and keeps the others.
 //! - `simes_reports_are_of_the_simes_test`: what `simes` prints names as rejected exactly the hypotheses that the closed test
 //!   of weighted Simes tests rejects. It has one line for each set that isn't empty, with its bound by that test.
 //! - `weights_are_of_the_intersections`: what `weights` prints has one line for each set that isn't empty, with the weights
