@@ -2,14 +2,15 @@
 ghost use Rattle.answers_exist.specs.Existence.{CallsHaveAnAnswer, StudiesHaveAnOutcome};
 ghost use Rattle.answers_exist.specs.Runs.{DecisionsEnd, AdjustedRunsEnd, LooksEnd, SetRunsEnd, FlowRunsEnd};
 
-/// For all words, cases and proofs there is an answer that they require. By `calls_have_one_answer` of `graph_cli` there is no
-/// other.
+/// For all words, cases and proofs there is an answer that they require. If contracts see the bytes of the case and of the proof,
+/// there is no other, by `calls_have_one_answer` of `graph_cli`.
 pub fn calls_have_an_answer()
     ensures { CallsHaveAnAnswer }
 {}
 
 /// For all words, cases, commands and kept looks a study has an outcome, which is an answer with the looks that are kept in
-/// addition, or a refusal. By `studies_have_one_outcome` of `study_cli` there is no other.
+/// addition, or a refusal. If contracts see the bytes of case and commands and the kept looks, there is no other, by
+/// `studies_have_one_outcome` of `study_cli`.
 pub fn studies_have_an_outcome()
     ensures { StudiesHaveAnOutcome }
 {}

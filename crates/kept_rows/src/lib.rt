@@ -1,4 +1,14 @@
 //! What three statements do to the table of looks: the one that makes it, the one that puts a row, and the query of its rows.
+//!
+//! Proved of `make`, `put` and `rows`, over any connection, as long as the disk returned what was written:
+//! - `runs`, `shown`: the call ran its one statement, `make_sql`, `put_sql` or `rows_sql`, with the values that it was given.
+//! - `make`: `made` (a database without any object has the table then, without rows), `kept` (a table that is there keeps its
+//!   rows).
+//! - `put`: `put` (the row follows those that were there).
+//! - `rows`: `all` (the answer has all rows, in the order in which they were put there), `kept` (the rows stay).
+//!
+//! Each of these but `runs` and `shown` is about a call that succeeds. `clean` says that a disk that is clean after a call was clean
+//! before it.
 #![tactic(auto)]
 
 ghost use Rattle.std.specs.Prelude.{[], ◌∷◌, ◌++◌, ◌≡◌, OnOk, IfOk};

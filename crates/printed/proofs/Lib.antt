@@ -1,6 +1,8 @@
 pub mod BoundsPrinted
+pub mod CanonAccepted
 pub mod CanonReadBack
 pub mod CataloguePrinted
+pub mod EvidenceConfirmed
 pub mod FilledCases
 pub mod GateCases
 pub mod NamedGraphs

@@ -1,6 +1,8 @@
+pub mod Accepted
 pub mod Bounds
 pub mod Canon
 pub mod Catalogue
+pub mod Confirmed
 pub mod Rules
 pub mod Sets
 pub mod Simes

@@ -1,7 +1,9 @@
 //! Laws of what is printed. Each function states laws, and does nothing.
+ghost use Rattle.printed.specs.Accepted.{CanonIsAnsweredAsTheCase};
 ghost use Rattle.printed.specs.Bounds.{BoundsAreOfTheClosedTest};
 ghost use Rattle.printed.specs.Canon.{CanonIsReadAsTheCase, CanonTellsCasesApart};
 ghost use Rattle.printed.specs.Catalogue.{CatalogueIsOfTheNamedGraphs};
+ghost use Rattle.printed.specs.Confirmed.{EvidenceIsConfirmedByCheck};
 ghost use Rattle.printed.specs.Rules.{HolmGraphsAreTestedByHolm, SequencesAreTestedInOrder, FallbacksAreTestedByFallback};
 ghost use Rattle.printed.specs.Rules.{GatesAreTestedByGatekeeping};
 ghost use Rattle.printed.specs.Simes.{SimesReportsAreOfTheSimesTest};
@@ -15,6 +17,20 @@ ghost use Rattle.printed.specs.Weights.{WeightsAreOfTheIntersections};
 pub fn canon_is_read_as_the_case()
     ensures back { CanonIsReadAsTheCase }
     ensures apart { CanonTellsCasesApart }
+{}
+
+/// What `canon` prints with status 0 is accepted in place of the case, if it has at most 4,194,304 bytes. Each command that reads
+/// a case has the same answers on the printed text, read in its format, as on the bytes of the case. (A case of fewer bytes may
+/// have a canonical text of more, which is then refused as too long.)
+pub fn canon_is_answered_as_the_case()
+    ensures { CanonIsAnsweredAsTheCase }
+{}
+
+/// What `evidence` prints with status 0, by any priority, is confirmed by `check`, if it has at most 4,194,304 bytes. On the same
+/// bytes of the case, the only answer of `check` is `yes` with status 0. It lists the hypotheses of the steps in their order, and
+/// keeps the others.
+pub fn evidence_is_confirmed_by_check()
+    ensures { EvidenceIsConfirmedByCheck }
 {}
 
 /// What `simes` prints with status 0 names as rejected exactly the hypotheses that the closed test of weighted Simes tests

@@ -1,11 +1,15 @@
 //! Laws, over words and bytes, of what the program prints: of `canon`, `simes`, `weights`, `bounds`, `catalogue` and `study`.
-//! There are also laws of `test` on the graphs of textbook rules, and of `stages` in each order. The other laws of `test` and
-//! `stages`, and those of `sample`, `check` and `evidence`, are in `graph_cli`.
+//! There are also laws of `test` on the graphs of textbook rules, of `stages` in each order, and of `evidence` together with
+//! `check`. The other laws of these commands, and those of `sample`, are in `graph_cli`.
 //!
 //! Proved, for each answer with status 0:
 //! - `canon_is_read_as_the_case`: what `canon` prints in a format is read in that format as the case that was read, and as no
 //!   other. Two cases have the same text in a format exactly if they are the same case. A sheet doesn't hold its level, so this is
 //!   stated of sheets with the same level.
+//! - `canon_is_answered_as_the_case`: if what `canon` prints has at most 4,194,304 bytes, each command that reads a case has the
+//!   same answers on it as on the case.
+//! - `evidence_is_confirmed_by_check`: if what `evidence` prints has at most 4,194,304 bytes, `check` for the same case answers
+//!   `yes` with status 0, and nothing else. It lists the hypotheses of the steps, and keeps the others.
 //! - `simes_reports_are_of_the_simes_test`: what `simes` prints names as rejected exactly the hypotheses that the closed test
 //!   of weighted Simes tests rejects. It has one line for each set that isn't empty, with its bound by that test.
 //! - `weights_are_of_the_intersections`: what `weights` prints has one line for each set that isn't empty, with the weights

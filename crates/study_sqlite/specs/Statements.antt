@@ -1,28 +1,17 @@
 -- The statements on the table of looks, and what they did by what a connection showed before and after.
-use Rattle.std.specs.Prelude.{◌≡◌, ◌⊎◌, ℕ, List, [], ◌∷◌, Contains, Ok, Err, codes}
+use Rattle.std.specs.Prelude.{◌≡◌, ◌⊎◌, ℕ, List, [], ◌∷◌, Contains, Ok, Err}
 use Rattle.std.specs.List.{AllZip}
 use Rattle.graph_io.specs.declared.keeper.Look.{Look}
 use Rattle.sqlite.specs.declared.error.Error.{Error}
 use Rattle.sqlite.specs.declared.types.Value.TheVariants.{Int, Text}
 use Rattle.sqlite.specs.Order.{Row, column}
 use Rattle.sqlite.specs.State.{State, Executes, Shown, FailsToQuery}
+pub use Rattle.kept_rows.specs.Table.{make_sql, put_sql, rows_sql}
 use Rattle.study_sqlite.specs.declared.fault.FileFault.{FileFault}
 use Rattle.study_sqlite.specs.declared.fault.FileFault.TheVariants.{Refused, NoMemory}
 use Rattle.study_sqlite.specs.declared.row.LookRow.{LookRow}
 use Rattle.study_sqlite.specs.FileFaults.{fault_of_error}
 use Rattle.study_sqlite.specs.Rows.{IsRowOf}
-
--- the table is made if it isn't there
-abbrev pub make_sql : List ℕ
-make_sql = codes "CREATE TABLE IF NOT EXISTS looks (place INTEGER PRIMARY KEY, hypothesis INTEGER NOT NULL, stage INTEGER NOT NULL, p TEXT NOT NULL, UNIQUE (hypothesis, stage))"
-
--- a row is put after the others
-abbrev pub put_sql : List ℕ
-put_sql = codes "INSERT INTO looks (hypothesis, stage, p) VALUES (?1, ?2, ?3)"
-
--- all rows are shown, in the order in which they were put there
-abbrev pub rows_sql : List ℕ
-rows_sql = codes "SELECT hypothesis, stage, p FROM looks ORDER BY place"
 
 -- the values of a row, in the order of the columns
 abbrev pub values_of : LookRow → Row

@@ -9,6 +9,7 @@ pub mod ShortRuns
 pub mod ChainSums
 pub mod SequenceRuns
 pub mod ValidAlone
+pub mod GateValid
 pub mod GateShares
 pub mod GateLeft
 pub mod GateOrders

@@ -27,10 +27,10 @@ use Rattle.field_core.specs.Graph.{Graph}
 pub low : (x : Number) → number_zero ≤ε x → AtMost number_field number_field.𝟘 x
 low x h = subst (λ z. z ≤ε x) (sym field_zero) h
 
-high : (x : Number) → x ≤ε number_one → AtMost number_field x number_field.𝟙
+pub high : (x : Number) → x ≤ε number_one → AtMost number_field x number_field.𝟙
 high x h = subst (λ z. x ≤ε z) (sym field_one) h
 
-alone_is_valid : (E : EntangledGraph) (G : Graph Number) → IsAlone G E → IsValid number_field E.hypotheses (E.graph 0) → IsValidEntangled E
+pub alone_is_valid : (E : EntangledGraph) (G : Graph Number) → IsAlone G E → IsValid number_field E.hypotheses (E.graph 0) → IsValidEntangled E
 alone_is_valid E G A V = record {
   graph = λ c h. subst (λ d. IsValid number_field E.hypotheses (E.graph d)) (only_first E.components c A.one h) V;
   share_nonneg = λ c h. subst (λ d. number_zero ≤ε E.share d) (only_first E.components c A.one h)
@@ -85,13 +85,13 @@ as_often zero c = sum_nothing (λ _. c) ∙ nothing_times c ∙ ap (λ z. c *ε 
 as_often (suc k) c = sum_last k (λ _. c) ∙ ap (λ z. z +ε c) (as_often k c) ∙ once_more c (fraction (pos k) (pos 1))
     ∙ ap (λ z. c *ε z) (sym (next_count k))
 
-all_parts : (n : ℕ) → sum_below number_field (suc n) (λ _. one_over (suc n)) ≡ number_one
+pub all_parts : (n : ℕ) → sum_below number_field (suc n) (λ _. one_over (suc n)) ≡ number_one
 all_parts n = as_often (suc n) (one_over (suc n)) ∙ times_count n
 
 split_row : (e x : Number) → e *ε x ≡ number_one → e *ε (x +ε number_one) ≡ number_one +ε e
 split_row e x h = sym (once_more e x) ∙ ap (λ z. z +ε e) h
 
-one_too_many : (n : ℕ) → sum_below number_field (suc (suc n)) (λ _. one_over (suc n)) ≡ number_one +ε one_over (suc n)
+pub one_too_many : (n : ℕ) → sum_below number_field (suc (suc n)) (λ _. one_over (suc n)) ≡ number_one +ε one_over (suc n)
 one_too_many n = as_often (suc (suc n)) (one_over (suc n)) ∙ ap (λ z. one_over (suc n) *ε z) (next_count (suc n))
     ∙ split_row (one_over (suc n)) (fraction (pos (suc n)) (pos 1)) (times_count n)
 

@@ -62,6 +62,10 @@ module _ (p : ℕ → Number) (level : Number) (a b : ℕ) where
 
 -- ---- what the graph decides
 
+-- The graph of parallel gatekeeping is valid.
+abbrev pub GatekeepingGraphsAreValid : Type 0
+GatekeepingGraphsAreValid = (E : EntangledGraph) (a b : ℕ) → IsGatekeepingGraph a b E → IsValidEntangled E
+
 -- On the graph of parallel gatekeeping, the closed test rejects exactly what parallel gatekeeping rejects, at each level from 0 to 1.
 abbrev pub GatekeepingGraphsDecideAsGatekeeping : Type 0
 GatekeepingGraphsDecideAsGatekeeping =

@@ -10,6 +10,7 @@ ghost use Rattle.textbook.specs.TextbookStatements.{
   SequenceGraphsAreValid,
   HolmGraphsAreValid,
 };
+ghost use Rattle.textbook.specs.Gatekeeping.{GatekeepingGraphsAreValid};
 
 /// On the graphs of Holm, of the fixed sequence and of fallback, the closed test rejects exactly what the rule rejects,
 /// at each level from 0 to 1.
@@ -19,11 +20,12 @@ pub fn textbook_graphs_decide_as_rules()
     ensures holm { HolmGraphsDecideAsHolm }
 {}
 
-/// Graphs with the weights of fallback, that of the fixed sequence and that of Holm are valid.
+/// Graphs with the weights of fallback, that of the fixed sequence, that of Holm and that of parallel gatekeeping are valid.
 pub fn textbook_graphs_are_valid()
     ensures fallback { FallbackGraphsAreValid }
     ensures sequence { SequenceGraphsAreValid }
     ensures holm { HolmGraphsAreValid }
+    ensures gatekeeping { GatekeepingGraphsAreValid }
 {}
 
 /// The positions by ascending p-value are all positions, in this order, ties by position; and there is exactly one number of

@@ -1,3 +1,4 @@
+pub mod LesserRows
 pub mod Places
 pub mod Readings
 pub mod RowFacts

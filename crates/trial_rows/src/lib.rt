@@ -6,9 +6,13 @@
 //!   rejects the hypothesis with the readings of the row's doubles, and else 0.
 //! - `fit`, `opening`, `fault`: unless out of memory, the call is refused exactly if the lengths don't fit or the opening is
 //!   undefined. After a refusal nothing is written (`rejected`, `statuses`).
+//!
+//! Law `marks_stay_where_doubles_fall`: of two decided rows on one case, let each double of the one be at most that of the other.
+//! Then the one has a mark wherever the other has.
 #![tactic(auto)]
 
 mod fault;
+pub mod laws;
 mod row;
 mod row_end;
 mod rows;

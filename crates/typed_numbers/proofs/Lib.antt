@@ -2,6 +2,7 @@ mod Answers
 pub mod ByTheRules
 mod Near
 mod Neighbours
+pub mod Ordered
 mod Quarters
 mod Readable
 mod Steps

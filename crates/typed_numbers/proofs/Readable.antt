@@ -21,7 +21,7 @@ or_r : (a b : Bool) → T b → T (a || b)
 or_r true b t = tt
 or_r false b t = t
 
-or_cases : (a b : Bool) → T (a || b) → T a ⊎ T b
+pub or_cases : (a b : Bool) → T (a || b) → T a ⊎ T b
 or_cases true b t = inl tt
 or_cases false b t = inr t
 
@@ -33,7 +33,7 @@ at_most a b h = elim (cases_lt a b) [
   | inr k ↦ or_r (ltb a b) (level false a false b) (and_i (eqb a b) true (eq→eqb (let e : a ≡ b = omega arith in e)) tt)
 ]
 
-is_at_most : (a b : ℕ) → T (ltb a b || level false a false b) → a ≤ b
+pub is_at_most : (a b : ℕ) → T (ltb a b || level false a false b) → a ≤ b
 is_at_most a b t = elim (or_cases (ltb a b) (level false a false b) t) [
   | inl k ↦ (let f = ltb→lt a b k in omega arith)
   | inr k ↦ (let f = eqb→eq a b (and_l (eqb a b) true k) in omega arith)

@@ -11,7 +11,7 @@ use Rattle.typed_numbers.specs.Promises.{IsShortUnit}
 use Rattle.typed_numbers.specs.Rules.{IsReading, IsReadingOf}
 use Rattle.typed_numbers.specs.Laws.Total.{small, parts_at_most_one}
 
-lowest_is : (n q : ℕ) → lowest_terms (pos n) (pos q) ≡ record { num = pos (n / gcd n q); den = pos (q / gcd n q) }
+pub lowest_is : (n q : ℕ) → lowest_terms (pos n) (pos q) ≡ record { num = pos (n / gcd n q); den = pos (q / gcd n q) }
 unfolding lowest_terms lowest_of
 lowest_is n q = rw (not_negative n, not_negative q) refl
 

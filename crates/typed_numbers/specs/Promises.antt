@@ -2,7 +2,8 @@
 use Rattle.std.specs.Prelude.{◌≡◌, ◌↔◌, ℕ, ◌-◌, ◌*◌, ◌^◌, ◌<◌, ◌≤◌, ◌⊎◌, pos, Option, Some, false}
 use lib.Dec.{T}
 use lib.Ieee.{Float, fin, binary64, le, of_bits}
-use Rattle.fraction.specs.View.{terms_of}
+use Rattle.field_core.specs.Order.{◌≤ε◌}
+use Rattle.fraction.specs.View.{terms_of, number_of}
 use Rattle.fraction.specs.declared.fraction.Fraction.{Fraction}
 use Rattle.typed_numbers.specs.Intervals.{IsInside, range_of}
 use Rattle.typed_numbers.specs.Rounding.{RoundsTo, units_of}
@@ -51,3 +52,8 @@ IsFromZeroToOne bits = T (le zero_float (of_bits binary64 bits)) × T (le (of_bi
 -- Exactly the doubles from 0 to 1 have a reading.
 abbrev pub ReadableAreFromZeroToOne : Type 0
 ReadableAreFromZeroToOne = (bits : ℕ) → bits < 2 ^ 64 → IsReadable bits ↔ IsFromZeroToOne bits
+
+-- Of two doubles with a reading, of which one is at most the other as the kit compares doubles, the readings are in the same order.
+abbrev pub ReadingsKeepOrder : Type 0
+ReadingsKeepOrder = (x y : ℕ) (f g : Fraction) → IsReadingOf x (Some f) → IsReadingOf y (Some g)
+    → T (le (of_bits binary64 x) (of_bits binary64 y)) → number_of f ≤ε number_of g

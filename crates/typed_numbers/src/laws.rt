@@ -1,6 +1,6 @@
 //! Laws of readings.
 ghost use Rattle.typed_numbers.specs.Promises.{IntervalsAreWhatRounds, ReadingsAreUnique, ReadingsAreNear};
-ghost use Rattle.typed_numbers.specs.Promises.{ReadingsAreShortUnits, ReadableAreFromZeroToOne};
+ghost use Rattle.typed_numbers.specs.Promises.{ReadingsAreShortUnits, ReadableAreFromZeroToOne, ReadingsKeepOrder};
 ghost use Rattle.typed_numbers.specs.Readings.{ReadingsAreByTheRules};
 
 /// A fraction is in the interval of a double exactly if it rounds to it.
@@ -31,4 +31,10 @@ pub fn readings_are_short_units()
 /// Exactly the doubles from 0 to 1 have a reading.
 pub fn readable_are_from_zero_to_one()
     ensures { ReadableAreFromZeroToOne }
+{}
+
+/// Readings keep the order of doubles: if a double is at most another, and both have a reading, the reading of the first is at
+/// most that of the second.
+pub fn readings_keep_order()
+    ensures { ReadingsKeepOrder }
 {}

@@ -16,6 +16,7 @@
 //! - Law `readings_are_unique`: the bits of a double have one reading at most.
 //! - Law `readings_are_near`: a reading rounds to its double, or is above it by less than 10^-30.
 //! - Law `readings_are_short_units`: a reading is from 0 to 1, and its denominator is at most 10^30.
+//! - Law `readings_keep_order`: if a double is at most another one, its reading is at most that of the other.
 //! - Law `readable_are_from_zero_to_one`: exactly the doubles from 0 to 1, as the kit compares doubles, have a reading.
 //! - Law `intervals_are_what_rounds`: the fractions that round to a finite double, subnormal or not, are an interval, which
 //!   `range_of` gives by the double's fields.

@@ -73,7 +73,7 @@ unfolding units_of
 units_are bits short = value_units (of_bits binary64 bits) (mantissa_by (exponent_of bits) (digits_of bits) * 2 ^ shift_by (exponent_of bits)) (bits_value bits short)
 
 -- the rounded value in units of 2 ^ -1074, which is that of the double exactly for fractions in its interval
-grid_of : (e d n q : ℕ) → d < 2 ^ 52 → 0 < q → IsInside (range_by e d) n q ↔ (grid binary64 n q ≡ mantissa_by e d * 2 ^ shift_by e)
+pub grid_of : (e d n q : ℕ) → d < 2 ^ 52 → 0 < q → IsInside (range_by e d) n q ↔ (grid binary64 n q ≡ mantissa_by e d * 2 ^ shift_by e)
 grid_of zero d n q short hq = (
   λ k. let g = forward_finest d n q (1 - d % 2) (omega arith) hq (omega arith) (omega (arith, k.from_low)) (omega (arith, k.to_high)) in omega (arith, g),
   λ e. let r = backward_finest d n q (1 - d % 2) (omega arith) hq (omega arith) (omega (arith, e)) in
