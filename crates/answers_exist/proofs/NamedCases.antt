@@ -1,5 +1,5 @@
 -- Named graphs and samples are made, or refused for their sizes, their seed or a fault of their case.
-use Rattle.std.proofs.Common.{◌≡◌, refl, subst, ℕ, zero, suc, ◌≤◌, arith, Bool, true, false, List, [], Option, Some, None}
+use Rattle.std.proofs.Common.{◌≡◌, refl, ℕ, zero, suc, ◌≤◌, arith, Bool, true, false, List, [], Option, Some, None}
 use Rattle.std.proofs.Common.{Result, Ok, Err}
 use Rattle.std.specs.Prelude.{if◌then◌else◌, pos}
 use Rattle.field_core.specs.declared.ratio.Ratio.{Ratio}

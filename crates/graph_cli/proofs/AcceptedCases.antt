@@ -18,7 +18,7 @@ use Rattle.serde_json.specs.Data.{Data}
 use Rattle.serde_json.specs.Read.{read}
 use Rattle.refusals.specs.CaseRefusal.{case_refusal}
 use Rattle.refusals.specs.JsonRefusal.{json_refusal}
-use Rattle.graph_cli.specs.Accepted.{grammar, faultless, suitable, accepted}
+use Rattle.graph_cli.specs.Accepted.{grammar, case_in, suitable, accepted}
 use Rattle.graph_cli.specs.Troubles.{line_of}
 use Rattle.graph_cli.specs.declared.needs.Needs.{Needs}
 
@@ -46,13 +46,15 @@ grammar_decided text bytes = told_as_decided _ _ (stage_decided (text_reading by
 grammar_decided (csv alpha) bytes = told_as_decided _ _ (stage_decided (table_of alpha (cells_of bytes)))
 grammar_decided json bytes = record { one = json_draft bytes; one_refusal = json_one_refusal bytes; not_both = json_not_both bytes }
 
-faultless_decided : (d : Draft) → IsDecided (faultless d)
-faultless_decided d = told_as_decided (case_refusal d.names) _ (given_unless_decided (case_fault d) (content_of d))
+-- bytes denote at most one case
+pub case_decided : (format : Encoding) (bytes : List ℕ) → IsDecided (case_in format bytes)
+case_decided format bytes = then_decided _ _ (grammar_decided format bytes)
+    (λ (d : Draft). told_as_decided (case_refusal d.names) _ (given_unless_decided (case_fault d) (content_of d)))
 
 suitable_decided : (needs : Needs) (c : Content) → IsDecided (suitable needs c)
 suitable_decided needs c = then_decided _ _ (given_if_decided _ _ _) (λ x. given_if_decided _ _ _)
 
 pub accepted_decided : (format : Encoding) (needs : Needs) (bytes : List ℕ) → IsDecided (accepted format needs (Some bytes))
 accepted_decided format needs bytes =
-    then_decided _ _ (within_decided _ bytes) (λ xs. then_decided _ _ (then_decided _ _ (grammar_decided format xs) faultless_decided)
-    (λ c. told_as_decided (line_of c.names) _ (suitable_decided needs c)))
+    then_decided _ _ (within_decided _ bytes)
+    (λ xs. then_decided _ _ (case_decided format xs) (λ c. told_as_decided (line_of c.names) _ (suitable_decided needs c)))

@@ -1,5 +1,5 @@
 -- What is printed of a sample names exactly what the closed test rejects.
-use Rattle.std.proofs.Common.{◌≡◌, ap, subst, ℕ, List, Option, Some, None, Result, Ok, inl, inr}
+use Rattle.std.proofs.Common.{◌≡◌, ap, subst, ℕ, Option, Some, None, Result, Ok, inl, inr}
 use Rattle.std.specs.Prelude.{pos}
 use Rattle.answers.specs.declared.answer.Answer.{Answer}
 use Rattle.case_model.specs.Content.{Content}

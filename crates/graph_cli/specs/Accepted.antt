@@ -1,5 +1,5 @@
 -- The stages that commands have in common: the case is read, and tested whether the command can take it.
-use Rattle.std.specs.Prelude.{◌≡◌, ◌⊎◌, ◌+◌, ◌≤◌, ℕ, List, [], Some, Option, length}
+use Rattle.std.specs.Prelude.{◌≡◌, ◌⊎◌, ◌+◌, ◌≤◌, ℕ, List, [], Option, length}
 use Rattle.std.specs.Io.KnownBytes.{IsAtEnd}
 use Rattle.graph_io.specs.Reading.{TookAtMost}
 use Rattle.answers.specs.declared.refusal.Refusal.{Refusal}

@@ -1,4 +1,4 @@
-use Rattle.std.proofs.Common.{inl, inr, refl}
+use Rattle.std.proofs.Common.{inl, inr}
 use Rattle.case_model.specs.CaseView.{content}
 use Rattle.evidence_check.proofs.DocumentLaws.{evidence_found}
 use Rattle.graph_cli.specs.Check.{said_of, check_stage}
