@@ -1,12 +1,12 @@
 -- A source denotes a case that a command can take, or is refused.
-use Rattle.std.proofs.Common.{◌≡◌, ◌⊎◌, inl, inr, refl, sym, ◌∙◌, subst, ℕ, List, [], ◌∷◌, length, Option, Result, Ok, Err}
+use Rattle.std.proofs.Common.{◌≡◌, ◌⊎◌, ◌≤◌, inl, inr, refl, sym, ◌∙◌, subst, ℕ, List, [], ◌∷◌, length, Option, arith}
 use Rattle.std.specs.Str.{is_utf8}
 use Rattle.std.proofs.lemmas.Str.{IsUtf8-from_is_utf8, is_utf8-from_IsUtf8}
-use Rattle.field_core.specs.Answers.{mapped}
 use Rattle.field_core.specs.declared.ratio.Ratio.{Ratio}
 use Rattle.field_core.proofs.Live.{true_or_false, true_not_false}
 use Rattle.field_core.proofs.Positions.{below_or_above}
-use Rattle.answers.specs.Stages.{on_bytes, within}
+use Rattle.answers.specs.Stages.{Ends, on_bytes, within}
+use Rattle.answers.proofs.Decided.{stage_ends, given_unless_ends, given_if_ends}
 use Rattle.case_model.specs.declared.draft.Draft.{Draft}
 use Rattle.case_model.specs.declared.draft_stages.Arrival.{Arrival}
 use Rattle.case_model.specs.declared.inputs.Inputs.{Inputs}
@@ -14,45 +14,28 @@ use Rattle.case_model.specs.declared.inputs.Inputs.TheVariants.{Bare, Single, St
 use Rattle.case_model.specs.CaseFaults.{case_fault}
 use Rattle.case_model.specs.Content.{Content, content_of}
 use Rattle.case_model.specs.Validity.{IsValidContent}
-use Rattle.case_csv.specs.Table.{cells_of, sheet_of, table_of}
+use Rattle.case_csv.specs.Table.{cells_of, table_of}
 use Rattle.case_json.specs.Document.{document_of}
 use Rattle.case_json.specs.Values.{IsJson}
 use Rattle.serde_json.specs.Data.{Data}
 use Rattle.serde_json.specs.Read.{read}
 use Rattle.command_words.specs.Asked.{Encoding, text, csv, json}
-use Rattle.edge_text.proofs.TextLaws.{says_or_fails}
+use Rattle.edge_text.specs.Document.{text_reading}
 use Rattle.refusals.specs.CaseRefusal.{case_refusal}
-use Rattle.refusals.specs.CellRefusal.{cell_refusal}
 use Rattle.refusals.specs.JsonRefusal.{syntax_refusal, json_refusal}
-use Rattle.refusals.specs.TextRefusal.{line_refusal}
 use Rattle.graph_cli.specs.Accepted.{grammar, faultless, case_in, IsOfKind, of_kind, of_size, suitable, accepted}
 use Rattle.graph_cli.specs.Troubles.{line_of}
 use Rattle.graph_cli.specs.declared.kind.InputKind.{InputKind}
 use Rattle.graph_cli.specs.declared.kind.InputKind.TheVariants as kinds
 use Rattle.graph_cli.specs.declared.needs.Needs.{Needs}
-use Rattle.graph_cli.specs.declared.trouble.Trouble.TheVariants as troubles
 use Rattle.graph_cli.proofs.ClosedReports.{valid_said}
-use Rattle.answers_exist.specs.Ends.{Ends}
 use Rattle.answers_exist.proofs.Ends.{then_ends, told_ends, bytes_end, within_ends}
-use Rattle.answers_exist.proofs.Results.{given_or_none, not_given, value_or_fault}
+use Rattle.answers_exist.proofs.Results.{given_or_none, not_given}
 
 -- ---- drafts
 
-mapped_fault : {A B E : Type 0} (f : A → B) (r : Result A E) (e : E) → mapped f r ≡ Err e → r ≡ Err e
-mapped_fault f (Ok x) e h = absurd (cc h)
-mapped_fault f (Err g) e h = cc
-
-sheet_ends : (bytes : List ℕ) (alpha : Ratio) → Ends (grammar (csv alpha) bytes)
-sheet_ends bytes alpha = elim (value_or_fault (table_of alpha (cells_of bytes))) [
-  | inl d ↦ inl (d.0, d.1)
-  | inr f ↦ inr (
-    cell_refusal f.0.row f.0.column f.0.kind,
-    (f.0.row, f.0.column, f.0.kind, mapped_fault _ (sheet_of (cells_of bytes)) f.0 f.1, refl),
-  )
-]
-
 value_ends : (bytes : List ℕ) (value : Data) → IsJson bytes value → Ends (grammar json bytes)
-value_ends bytes value j = elim (value_or_fault (document_of value)) [
+value_ends bytes value j = elim (stage_ends (document_of value)) [
   | inl d ↦ inl (d.0, (value, j, d.1))
   | inr f ↦ inr (json_refusal f.0, inr (f.0, (value, j, f.1), refl))
 ]
@@ -67,18 +50,12 @@ json_ends bytes = elim (true_or_false (is_utf8 bytes)) [
 ]
 
 grammar_ends : (format : Encoding) (bytes : List ℕ) → Ends (grammar format bytes)
-grammar_ends text bytes = elim (says_or_fails bytes) [
-  | inl d ↦ inl (d.0, d.1)
-  | inr f ↦ inr (line_refusal f.0 f.1, (f.0, f.1, f.2, refl))
-]
-grammar_ends (csv alpha) bytes = sheet_ends bytes alpha
+grammar_ends text bytes = told_ends _ _ (stage_ends (text_reading bytes))
+grammar_ends (csv alpha) bytes = told_ends _ _ (stage_ends (table_of alpha (cells_of bytes)))
 grammar_ends json bytes = json_ends bytes
 
 faultless_ends : (d : Draft) → Ends (faultless d)
-faultless_ends d = elim (given_or_none (case_fault d)) [
-  | inr none ↦ inl (content_of d, (none, refl))
-  | inl fault ↦ inr (case_refusal d.names fault.0, (fault.0, fault.1, refl))
-]
+faultless_ends d = told_ends (case_refusal d.names) _ (given_unless_ends (case_fault d) (content_of d))
 
 -- ---- what a command can take
 
@@ -98,17 +75,12 @@ kind_or_not kinds.Awaited (Staged s) = none_or_some s.arrivals
 kind_or_not kinds.Awaited Bare = inr (λ h. h)
 kind_or_not kinds.Awaited (Single ps) = inr (λ h. h)
 
-kind_ends : (kind : InputKind) (c : Content) → Ends (of_kind kind c)
-kind_ends kind c = elim (kind_or_not kind c.inputs) [ inl h ↦ inl (c, (h, refl)) | inr n ↦ inr (troubles.Kind, (n, refl)) ]
-
-size_ends : (most : ℕ) (c : Content) → Ends (of_size most c)
-size_ends most c = elim (below_or_above most (length c.names)) [
-  | inl more ↦ inr (troubles.Closure (length c.names), (more, refl))
-  | inr few ↦ inl (c, (few, refl))
-]
+few_or_more : (most n : ℕ) → (n ≤ most) ⊎ ¬ (n ≤ most)
+few_or_more most n = elim (below_or_above most n) [ inl more ↦ inr (λ few. omega (arith, more, few)) | inr few ↦ inl few ]
 
 suitable_ends : (needs : Needs) (c : Content) → Ends (suitable needs c)
-suitable_ends needs c = then_ends (of_kind needs.kind c) (of_size needs.most) (kind_ends needs.kind c) (λ x g. size_ends needs.most x)
+suitable_ends needs c = then_ends (of_kind needs.kind c) (of_size needs.most) (given_if_ends _ _ _ (kind_or_not needs.kind c.inputs))
+    (λ x g. given_if_ends _ _ _ (few_or_more needs.most (length x.names)))
 
 -- a source in a format denotes a case that a command with these needs can take, or is refused
 pub accepted_ends : (format : Encoding) (needs : Needs) (left : Option (List ℕ)) → Ends (accepted format needs left)

@@ -7,6 +7,7 @@ use Rattle.field_core.specs.declared.place.WideAt.{WideAt}
 use Rattle.field_core.specs.declared.ratio.Ratio.{Ratio}
 use Rattle.field_core.proofs.Live.{true_or_false, true_not_false}
 use Rattle.fraction.specs.View.{number_of}
+use Rattle.answers.proofs.Decided.{stage_ends}
 use Rattle.case_model.specs.declared.inputs.Inputs.TheVariants.{Single}
 use Rattle.case_model.specs.CaseTests.{at_level, IsUnstaged}
 use Rattle.case_model.specs.Sums.{zero_ratio, one_ratio}
@@ -35,7 +36,6 @@ use Rattle.adjusted_p.proofs.Done.{values_are, none_wide, faults_are}
 use Rattle.adjusted_p.proofs.Greater.{first_greater, second_greater}
 use Rattle.adjusted_p.proofs.LevelOne.{one_level}
 use Rattle.adjusted_p.proofs.Steps.{adjusting_step, adjusting_end, adjusting_start, adjusting_fault}
-use Rattle.answers_exist.proofs.Results.{value_or_fault}
 use Rattle.answers_exist.proofs.Decisions.{weight_now, weight_is, next_trial, is_next_trial, ratios_or_wide, ratio_or_nothing, ratio_taken}
 
 -- the greater of two fractions
@@ -54,7 +54,7 @@ step_or_end c t T = elim (ratios_or_wide t.p_values t.state) [
   | inr w ↦ inr (inr (w.0, inl w.1))
   | inl defined ↦ elim (ratio_or_nothing c t T defined) [
     | inr none ↦ inl (record { choice = λ d D. ratio_choice d t D None none defined; same = refl; defined = defined })
-    | inl x ↦ elim (value_or_fault (case_removal t.state x.0)) [
+    | inl x ↦ elim (stage_ends (case_removal t.state x.0)) [
       | inl s ↦ inr (inl (
         record { line = record { hypothesis = x.0; weight = weight_now c t T x.0 }; ratio = x.1 },
         next_trial c t T x.0 s.0,
@@ -144,7 +144,7 @@ module _ (c : Content) (ps : List Ratio) (V : IsValidContent c) (e : c.inputs �
   -- a case with a p-value for each hypothesis has adjusted values, and their run is defined; or it is undefined
   pub adjusted_or_wide : ((xs : List Adjusted) × ((n : ℕ) (w : WideAt) → ¬ IsWideAdjusting c n w) × AreAdjusted c xs)
       ⊎ ((n : ℕ) × (w : WideAt) × IsWideAdjusting c n w)
-  adjusted_or_wide = elim (value_or_fault (case_opening c)) [
+  adjusted_or_wide = elim (stage_ends (case_opening c)) [
     | inr w ↦ inr (zero, w.0, w.1)
     | inl s ↦ elim (run_ends at_one refl (opened s.0) (opened_is s.0 s.1) refl) [
       | inl D ↦ inl (

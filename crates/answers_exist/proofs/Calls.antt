@@ -1,11 +1,11 @@
 -- Each call has an answer.
-use Rattle.std.proofs.Common.{◌≡◌, inl, inr, refl, ℕ, List, Option, Result, Ok, Err}
+use Rattle.std.proofs.Common.{◌≡◌, ◌⊎◌, inl, inr, refl, ℕ, Bool, true, false, List, Option, Result, Ok, Err}
 use Rattle.std.specs.Prelude.{codes}
-use Rattle.field_core.proofs.Live.{true_or_false}
 use Rattle.answers.specs.Lines.{done}
-use Rattle.answers.specs.Stages.{on_bytes, within, told_as}
-use Rattle.case_csv.specs.Sheet.{fits_sheet, sheet_text}
+use Rattle.answers.specs.Stages.{Ends, stage_of, on_bytes, within, told_as}
+use Rattle.case_csv.specs.Sheet.{fits_sheet}
 use Rattle.case_json.specs.Written.{json_text}
+use Rattle.answers.proofs.Decided.{stage_ends, given_if_ends}
 use Rattle.case_model.specs.Content.{Content}
 use Rattle.catalogue.specs.Makings.{sample_case}
 use Rattle.catalogue.specs.NamedGraphs.{equal_weights, part}
@@ -13,7 +13,7 @@ use Rattle.catalogue.specs.declared.fault.CatalogueFault.{CatalogueFault}
 use Rattle.catalogue.specs.declared.fault.CatalogueFault.TheVariants.{Size, Seed, Case as OfCase, NoMemory}
 use Rattle.catalogue.specs.WeightedGraphs.{names_of}
 use Rattle.command_words.specs.Asked.{Encoding, Asked, on_case as task_on_case, check, catalogue, sample, help}
-use Rattle.command_words.specs.Words.{asked_in, stage_of}
+use Rattle.command_words.specs.Words.{asked_in}
 use Rattle.command_words.specs.declared.command.CaseTask.{CaseTask}
 use Rattle.command_words.specs.declared.command.CaseTask.TheVariants as tasks
 use Rattle.command_words.specs.declared.format.Format.{Format}
@@ -37,31 +37,24 @@ use Rattle.graph_cli.specs.Outcome.{outcome}
 use Rattle.graph_cli.specs.Sample.{decided_sample, sample_stage}
 use Rattle.graph_cli.specs.Test.{decided}
 use Rattle.graph_cli.specs.Troubles.{line_of}
-use Rattle.graph_cli.specs.declared.trouble.Trouble.TheVariants as troubles
-use Rattle.answers_exist.specs.Ends.{Ends}
 use Rattle.answers_exist.specs.Existence.{CallsHaveAnAnswer}
 use Rattle.answers_exist.proofs.AcceptedCases.{IsTaken, accepted_ends, accepted_taken, single_of}
 use Rattle.answers_exist.proofs.DecidedCalls.{decided_ends, test_ends, stages_ends}
 use Rattle.answers_exist.proofs.Ends.{then_ends, told_ends, only_ends, within_ends, bytes_end, has_answer}
 use Rattle.answers_exist.proofs.EvidenceCalls.{check_ends, evidence_ends}
 use Rattle.answers_exist.proofs.NamedCases.{IsPlain, holm_plain, sequence_plain, fallback_plain, parallel_plain, improved_plain, sample_plain, sample_is}
-use Rattle.answers_exist.proofs.Results.{value_or_fault}
 use Rattle.answers_exist.proofs.SetCalls.{weights_ends, bounds_ends, simes_ends}
 
--- ---- results of readings
-
-pub result_ends : {A : Type 0} (r : Result A ℕ) → Ends (stage_of r)
-result_ends r = value_or_fault r
-
 -- ---- canonical documents
+
+passes_or_not : (b : Bool) → (b ≡ true) ⊎ ¬ (b ≡ true)
+passes_or_not true = inl refl
+passes_or_not false = inr (λ e. cc)
 
 canon_ends : (format : Format) (c : Content) → Ends (canon_stage format c)
 unfolding canon_stage sheet_stage
 canon_ends formats.Text c = only_ends (done (canonical_text c))
-canon_ends formats.Csv c = elim (true_or_false (fits_sheet c)) [
-  | inl t ↦ inl (done (sheet_text c), (t, refl))
-  | inr f ↦ inr (troubles.Kind, (f, refl))
-]
+canon_ends formats.Csv c = given_if_ends _ _ _ (passes_or_not (fits_sheet c))
 canon_ends formats.Json c = only_ends (done (json_text c))
 
 -- ---- named graphs
@@ -73,7 +66,7 @@ fault_ends n made plain (OfCase fault) e = inr (case_refusal (names_of n) fault,
 fault_ends n made plain NoMemory e = absurd (plain e)
 
 made_ends : (n : ℕ) (made : Result Content CatalogueFault) → IsPlain made → Ends (made_of n made)
-made_ends n made plain = elim (value_or_fault made) [ inl c ↦ inl c | inr f ↦ fault_ends n made plain f.0 f.1 ]
+made_ends n made plain = elim (stage_ends made) [ inl c ↦ inl c | inr f ↦ fault_ends n made plain f.0 f.1 ]
 
 named_plain : (graph : SizedGraph) → IsPlain (named_case graph)
 unfolding named_case
@@ -140,5 +133,5 @@ call_ends help case proof = only_ends (done help_text)
 pub calls_have_an_answer : CallsHaveAnAnswer
 calls_have_an_answer words case proof =
     has_answer (outcome words case proof)
-    (then_ends (told_as usage (stage_of (asked_in words))) _ (told_ends usage (stage_of (asked_in words)) (result_ends (asked_in words)))
+    (then_ends (told_as usage (stage_of (asked_in words))) _ (told_ends usage (stage_of (asked_in words)) (stage_ends (asked_in words)))
     (λ command g. call_ends command case proof))

@@ -1,6 +1,7 @@
 -- The calls that decide a case, and that print its looks, end.
 use Rattle.std.proofs.Common.{◌≡◌, inl, inr, refl, List}
 use Rattle.field_core.specs.declared.ratio.Ratio.{Ratio}
+use Rattle.answers.specs.Stages.{Ends}
 use Rattle.case_model.specs.declared.inputs.Inputs.TheVariants.{Single}
 use Rattle.case_model.specs.Content.{Content}
 use Rattle.case_model.specs.Validity.{IsValidContent}
@@ -12,7 +13,6 @@ use Rattle.answers.specs.Lines.{done}
 use Rattle.graph_cli.specs.Stages.{looked, stages_stage}
 use Rattle.graph_cli.specs.Test.{decided, adjusted, test_stage}
 use Rattle.graph_cli.specs.declared.trouble.Trouble.TheVariants.{Wide}
-use Rattle.answers_exist.specs.Ends.{Ends}
 use Rattle.answers_exist.proofs.AdjustedRuns.{adjusted_or_wide}
 use Rattle.answers_exist.proofs.Decisions.{decision_or_wide}
 use Rattle.answers_exist.proofs.Ends.{then_ends, only_ends}

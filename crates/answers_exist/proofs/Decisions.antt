@@ -16,6 +16,7 @@ use Rattle.field_core.proofs.Positions.{below_or_not, compared}
 use Rattle.fraction.specs.View.{number_of}
 use Rattle.fraction.specs.Plain.{single as single_parts}
 use Rattle.fraction.specs.Laws.PlainLaws.{plain_is_exact}
+use Rattle.answers.proofs.Decided.{stage_ends}
 use Rattle.case_model.specs.declared.inputs.Inputs.TheVariants.{Single}
 use Rattle.case_model.specs.Sums.{number, number_at, ratio_at}
 use Rattle.case_model.specs.Content.{Content}
@@ -41,7 +42,7 @@ use Rattle.sequential.proofs.Decided.{run_decision, never_wide}
 use Rattle.sequential.proofs.RatioFacts.{level_divides}
 use Rattle.sequential.proofs.RunSteps.{run_start, run_step, run_end, run_fault, step_smaller}
 use Rattle.sequential.proofs.TrialFacts.{opened_trial, distinct}
-use Rattle.answers_exist.proofs.Results.{given_or_none, not_given, value_or_fault}
+use Rattle.answers_exist.proofs.Results.{given_or_none, not_given}
 use Rattle.answers_exist.proofs.Searches.{HoldsForNone, first_or_none, last_or_none}
 
 -- ---- ratios that are written
@@ -244,7 +245,7 @@ module _ (c : Content) (t : TrialContent) (T : IsTrialOf c t) where
     | inr w ↦ inr (inr (w.0, inl w.1))
     | inl defined ↦ elim (takes_or_none priority defined) [
       | inr none ↦ inl (record { choice = none; same = refl; defined = defined })
-      | inl j ↦ elim (value_or_fault (case_removal t.state j.0)) [
+      | inl j ↦ elim (stage_ends (case_removal t.state j.0)) [
         | inl s ↦ inr (inl (
           record { hypothesis = j.0; weight = weight_now j.0 },
           next_trial j.0 s.0,
@@ -318,7 +319,7 @@ module _ (c : Content) (priority : Priority) where
   pub decision_or_wide : (ps : List Ratio) → IsValidContent c → c.inputs ≡ Single ps
       → ((d : Decision) × ((n : ℕ) (w : WideAt) → ¬ IsWideDecision c priority n w) × IsDecision c priority d)
       ⊎ ((n : ℕ) × (w : WideAt) × IsWideDecision c priority n w)
-  decision_or_wide ps V e = elim (value_or_fault (case_opening c)) [
+  decision_or_wide ps V e = elim (stage_ends (case_opening c)) [
     | inr w ↦ inr (zero, w.0, w.1)
     | inl s ↦ elim (run_from ps V e s.0 s.1) [
       | inr w ↦ inr w

@@ -3,9 +3,8 @@ use Rattle.std.proofs.Common.{inl, inr, refl, ℕ, ◌+◌, List, [], length, Op
 use Rattle.answers.specs.declared.answer.Answer.{Answer}
 use Rattle.answers.specs.declared.refusal.Refusal.{Refusal}
 use Rattle.answers.specs.Lines.{refused, bytes_refusal}
-use Rattle.answers.specs.Stages.{Stage, and_then, told_as, on_bytes, only, within, most_bytes, IsAnswerOf}
+use Rattle.answers.specs.Stages.{Stage, Ends, and_then, told_as, on_bytes, only, within, most_bytes, IsAnswerOf}
 use Rattle.field_core.proofs.Positions.{below_or_above}
-use Rattle.answers_exist.specs.Ends.{Ends}
 
 module _ {R A B : Type 0} (s : Stage R A) (t : A → Stage R B) where
   pub then_ends : Ends s → ((x : A) → s.Gives x → Ends (t x)) → Ends (and_then s t)

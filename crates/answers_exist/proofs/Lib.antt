@@ -5,7 +5,6 @@ pub mod DecidedCalls
 pub mod Decisions
 pub mod Ends
 pub mod EvidenceCalls
-pub mod FlowEvidence
 pub mod NamedCases
 pub mod Results
 pub mod Searches

@@ -1,5 +1,5 @@
 -- Named graphs and samples are made, or refused for their sizes, their seed or a fault of their case.
-use Rattle.std.proofs.Common.{◌≡◌, refl, subst, ℕ, zero, suc, ◌≤◌, arith, Bool, true, false, List, [], Option, Some, None}
+use Rattle.std.proofs.Common.{◌≡◌, refl, ℕ, zero, suc, ◌≤◌, arith, Bool, true, false, List, [], Option, Some, None}
 use Rattle.std.proofs.Common.{Result, Ok, Err}
 use Rattle.std.specs.Prelude.{if◌then◌else◌, pos}
 use Rattle.field_core.specs.declared.ratio.Ratio.{Ratio}
@@ -15,11 +15,8 @@ use Rattle.catalogue.specs.Makings.{made_unless, made, unless, seed_fault, holm_
 use Rattle.catalogue.specs.Quotients.{quotient}
 use Rattle.catalogue.specs.Samples.{sample_graph, sample_p_values}
 use Rattle.catalogue.specs.Sizes.{size_fault, sizes_fault}
-use Rattle.catalogue.specs.WeightedGraphs.{draft_of}
-use Rattle.catalogue.proofs.AloneCases.{is_made}
-use Rattle.catalogue.proofs.KnownEnds.{known_ends, known_arrivals}
-use Rattle.case_model.proofs.DraftValidity.{valid_of}
 use Rattle.catalogue.proofs.SampleInputs.{sample_inputs}
+use Rattle.graph_cli.proofs.SampledReports.{sample_valid}
 
 -- ---- what is made is never out of memory
 
@@ -116,9 +113,8 @@ sample_is n seed c e =
     let G = sample_graph n seed in
     let alpha = quotient (pos 1) 20 in
     let ps = sample_p_values n seed in
-    let M = is_made (draft_of G alpha ps) c b.1 in
     record {
-      valid = subst IsValidContent M.content (valid_of (draft_of G alpha ps) (known_ends G alpha ps) (known_arrivals G alpha ps) M.faultless);
+      valid = sample_valid n seed c e;
       p_values = ps;
       inputs = sample_inputs G alpha ps n n seed c refl (some_size n a.0) refl b.1;
     }

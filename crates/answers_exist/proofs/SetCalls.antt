@@ -4,6 +4,7 @@ use Rattle.field_core.specs.NumberedSets.{members}
 use Rattle.field_core.specs.declared.place.WideAt.{WideAt}
 use Rattle.field_core.specs.declared.ratio.Ratio.{Ratio}
 use Rattle.answers.specs.Lines.{done}
+use Rattle.answers.specs.Stages.{Ends}
 use Rattle.case_model.specs.declared.inputs.Inputs.TheVariants.{Single}
 use Rattle.case_model.specs.Content.{Content, ForSingle}
 use Rattle.case_model.specs.Sums.{number_at}
@@ -25,7 +26,6 @@ use Rattle.graph_cli.specs.declared.trouble.Trouble.{Trouble}
 use Rattle.graph_cli.specs.declared.trouble.Trouble.TheVariants.{Wide}
 use Rattle.graph_cli.proofs.SetAnswers.{closed_bounds}
 use Rattle.graph_cli.proofs.SimesCalls.{simes_bounds}
-use Rattle.answers_exist.specs.Ends.{Ends}
 use Rattle.answers_exist.proofs.Ends.{then_ends, only_ends}
 use Rattle.answers_exist.proofs.SetRuns.{sets_exist, runs_or_wide, weights_exist}
 use Rattle.answers_exist.proofs.SimesTables.{closed_table, simes_table_or_wide}

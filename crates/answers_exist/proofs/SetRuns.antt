@@ -11,6 +11,7 @@ use Rattle.field_core.proofs.ListOrder.{not_itself}
 use Rattle.field_core.proofs.Positions.{below_or_not}
 use Rattle.field_core.proofs.SetOrders.{out_leaves, out_order}
 use Rattle.fraction.specs.View.{number_of}
+use Rattle.answers.proofs.Decided.{stage_decided, stage_ends}
 use Rattle.case_model.specs.Content.{Content, entangled}
 use Rattle.case_model.specs.IntersectionWeight.{IsIntersectionWeight}
 use Rattle.case_model.specs.Sums.{zero_ratio}
@@ -23,7 +24,6 @@ use Rattle.closed_test.specs.SetLists.{AreSetsInOrder}
 use Rattle.closed_test.specs.SetRuns.{set_run, IsEarlierSet, AreRunsDefined, IsFirstWideSet}
 use Rattle.closed_test.specs.SetWeights.{AreIntersectionWeights}
 use Rattle.closed_test.proofs.SetLists.{number_out, before_both, before_or_behind}
-use Rattle.answers_exist.proofs.Results.{value_or_fault, not_both}
 use Rattle.answers_exist.proofs.Sorting.{in_order, first_of_all}
 
 -- ---- the order of sets
@@ -63,10 +63,10 @@ module _ (c : Content) where
   IsUndefined n = (w : WideAt) × (set_run c n ≡ Err w)
 
   undefined_or_not : (n : ℕ) → n < 2 ^ length c.names → IsUndefined n ⊎ ¬ IsUndefined n
-  undefined_or_not n b = elim (value_or_fault (set_run c n)) [ inl s ↦ inr (λ w. not_both (set_run c n) s.0 w.0 s.1 w.1) | inr w ↦ inl w ]
+  undefined_or_not n b = elim (stage_ends (set_run c n)) [ inl s ↦ inr (λ w. (stage_decided (set_run c n)).not_both s.0 w.0 s.1 w.1) | inr w ↦ inl w ]
 
   defined : (n : ℕ) → ¬ IsUndefined n → (s : CaseState) × (set_run c n ≡ Ok s)
-  defined n none = elim (value_or_fault (set_run c n)) [ inl s ↦ s | inr w ↦ absurd (none w) ]
+  defined n none = elim (stage_ends (set_run c n)) [ inl s ↦ s | inr w ↦ absurd (none w) ]
 
   pub runs_or_wide : AreRunsDefined c ⊎ ((n : ℕ) × (w : WideAt) × IsFirstWideSet c n w)
   runs_or_wide = elim (first_set (length c.names) IsUndefined undefined_or_not) [

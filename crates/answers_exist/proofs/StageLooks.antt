@@ -3,6 +3,7 @@ use Rattle.std.proofs.Common.{◌≡◌, ◌⊎◌, inl, inr, refl, ap, ◌∙�
 use Rattle.std.proofs.lemmas.List.{append_assoc}
 use Rattle.field_core.specs.declared.place.WideAt.{WideAt}
 use Rattle.graph_io.specs.declared.keeper.Look.{Look}
+use Rattle.answers.proofs.Decided.{stage_ends}
 use Rattle.case_model.specs.declared.draft_stages.Arrival.{Arrival}
 use Rattle.case_model.specs.Content.{Content}
 use Rattle.case_model.specs.Validity.{IsValidContent}
@@ -20,7 +21,6 @@ use Rattle.study_register.specs.RegisterFaults.{IsBadLook}
 use Rattle.study_register.proofs.EachEnd.{look_ends}
 use Rattle.staged_levels.proofs.StateFacts.{start_study}
 use Rattle.study_register.proofs.TakenLooks.{taken_study}
-use Rattle.answers_exist.proofs.Results.{value_or_fault}
 
 -- an arrival, as a look
 abbrev look_of : Arrival → Look
@@ -68,7 +68,7 @@ module _ (c : Content) where
   -- a case has looks; or its opening is undefined, or a look is the first that stops part way
   pub looks_or_wide : IsValidContent c → ((looks : List (List Settled)) × AreLooks c looks)
       ⊎ (((w : WideAt) × (case_opening c ≡ Err w)) ⊎ ((n : ℕ) × (w : WideAt) × BreaksOff c n w))
-  looks_or_wide V = elim (value_or_fault (case_opening c)) [
+  looks_or_wide V = elim (stage_ends (case_opening c)) [
     | inr w ↦ inr (inl w)
     | inl t ↦
         let D : IsDefined c start = record { state = t.0; state_is = after_opening c t.0 t.1 } in

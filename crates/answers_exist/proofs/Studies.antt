@@ -7,13 +7,13 @@ use Rattle.field_core.specs.Answers.{told_as as result_told}
 use Rattle.field_core.specs.declared.place.WideAt.{WideAt}
 use Rattle.graph_io.specs.declared.keeper.Look.{Look}
 use Rattle.answers.specs.Lines.{done, refused}
-use Rattle.answers.specs.Stages.{Stage, on_bytes, within, told_as}
+use Rattle.answers.specs.Stages.{Stage, Ends, stage_of, on_bytes, within, told_as}
+use Rattle.answers.proofs.Decided.{stage_ends}
 use Rattle.case_model.specs.Content.{Content}
 use Rattle.case_model.specs.Validity.{IsValidContent}
 use Rattle.command_words.specs.Asked.{StudyAsked}
-use Rattle.command_words.specs.Words.{study_in, stage_of}
+use Rattle.command_words.specs.Words.{study_in}
 use Rattle.refusals.specs.RecordRefusal.{record_refusal}
-use Rattle.refusals.specs.TextRefusal.{commands_refusal}
 use Rattle.refusals.specs.UsageRefusal.{usage}
 use Rattle.refusals.specs.WideRefusal.{wide_refusal}
 use Rattle.refusals.specs.declared.wide.When.TheVariants.{Look as AfterLook}
@@ -24,6 +24,7 @@ use Rattle.study_register.specs.RegisterFaults.{IsFirstStop, IsStopped}
 use Rattle.study_register.specs.declared.fault.RegisterFault.{RegisterFault}
 use Rattle.study_register.specs.declared.fault.RegisterFault.TheVariants.{BadLook, Wide, Fault, NoMemory}
 use Rattle.study_register.proofs.EachEnd.{look_ends, follows_defined, each_opening_ends}
+use Rattle.study_register.proofs.RegisterSteps.{first_not_fault}
 use Rattle.study_register.proofs.TakenLooks.{taken_study, taken_is_study}
 use Rattle.study_cli.specs.Commands.{commands_of}
 use Rattle.study_cli.specs.CommandFaults.{on_line}
@@ -34,31 +35,20 @@ use Rattle.study_cli.specs.declared.command.StudyCommand.{StudyCommand}
 use Rattle.study_cli.specs.declared.command.StudyCommand.TheVariants.{Take, Show}
 use Rattle.study_cli.proofs.CommandReads.{read_below}
 use Rattle.study_cli.specs.StudyOutcome.{study_needs, commands_in, case_of, commands_from, study_call}
-use Rattle.answers_exist.specs.Ends.{Ends}
 use Rattle.answers_exist.specs.Existence.{StudiesHaveAnOutcome}
 use Rattle.answers_exist.proofs.AcceptedCases.{accepted_ends, accepted_taken}
-use Rattle.answers_exist.proofs.Calls.{result_ends}
 use Rattle.answers_exist.proofs.Ends.{then_ends, told_ends, within_ends, bytes_end}
-use Rattle.answers_exist.proofs.Results.{value_or_fault}
 
 -- ---- commands
 
 commands_end : (c : Content) (bytes : List ℕ) → Ends (commands_in c bytes)
-commands_end c bytes = elim (value_or_fault (commands_of c.names bytes)) [
-  | inl list ↦ inl list
-  | inr f ↦ inr (commands_refusal f.0.line f.0.kind, (f.0.line, f.0.kind, f.1, refl))
-]
+commands_end c bytes = told_ends _ _ (stage_ends (commands_of c.names bytes))
 
 -- what commands say of looks is of hypotheses of the case
 commands_below : (c : Content) (bytes : List ℕ) (list : List StudyCommand) → (commands_in c bytes).Gives list
     → AllByRecursion (IsBelow (length c.names)) list
 unfolding commands_of
 commands_below c bytes list e = read_below c.names bytes (Ok list) (ap (result_told on_line) e)
-
-no_fault : (c : Content) (ls : List Look) (s : StudyState) (n : ℕ) → ¬ IsFirstStop c s n ls Fault
-no_fault c [] s n h = h
-no_fault c (l ∷ ls) s n (inl h) = h
-no_fault c (l ∷ ls) s n (inr h) = no_fault c ls h.0 (n + 1) h.2
 
 no_memory : (c : Content) (ls : List Look) (s : StudyState) (n : ℕ) → ¬ IsFirstStop c s n ls NoMemory
 no_memory c [] s n h = h
@@ -115,7 +105,7 @@ module _ (c : Content) where
   stop_ends : (looks : List Look) (why : RegisterFault) → IsStopped c looks why → Ends (opened c looks)
   stop_ends looks (BadLook n l) h = inr (record_refusal n, (BadLook n l, h, refl))
   stop_ends looks (Wide n w) h = inr (wide_refusal c.names (AfterLook n) w, (Wide n w, inr h, refl))
-  stop_ends looks Fault h = absurd (no_fault c looks start 1 h.first)
+  stop_ends looks Fault h = absurd (first_not_fault c looks start 1 h.first)
   stop_ends looks NoMemory h = absurd (no_memory c looks start 1 h.first)
 
   opened_ends : IsValidContent c → (looks : List Look) → Ends (opened c looks)
@@ -156,5 +146,5 @@ call_ends asked case commands kept =
 
 pub studies_have_an_outcome : StudiesHaveAnOutcome
 studies_have_an_outcome words case commands kept =
-    then_ends (told_as usage (stage_of (study_in words))) _ (told_ends usage (stage_of (study_in words)) (result_ends (study_in words)))
+    then_ends (told_as usage (stage_of (study_in words))) _ (told_ends usage (stage_of (study_in words)) (stage_ends (study_in words)))
     (λ asked g. call_ends asked case commands kept)

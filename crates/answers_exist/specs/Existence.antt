@@ -2,10 +2,9 @@
 use Rattle.std.specs.Prelude.{ℕ, List, Option}
 use Rattle.graph_io.specs.declared.keeper.Look.{Look}
 use Rattle.answers.specs.declared.answer.Answer.{Answer}
-use Rattle.answers.specs.Stages.{IsAnswerOf}
+use Rattle.answers.specs.Stages.{Ends, IsAnswerOf}
 use Rattle.graph_cli.specs.Outcome.{outcome}
 use Rattle.study_cli.specs.StudyOutcome.{study_outcome}
-use Rattle.answers_exist.specs.Ends.{Ends}
 
 -- Whatever the words, the case and the proof, there is an answer that they require. (A source may expose its bytes or not.)
 abbrev pub CallsHaveAnAnswer : Type 0

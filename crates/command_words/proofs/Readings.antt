@@ -1,20 +1,12 @@
--- The readings of words as stages of a call.
-use Rattle.std.proofs.Common.{◌≡◌, ◌∙◌, ap, refl, sym, ℕ, Bool, true, false, List, [], ◌∷◌, None, Result, Ok, Err}
+-- Words are read by one of the readers.
+use Rattle.std.proofs.Common.{◌≡◌, ap, refl, ℕ, Bool, true, false, List, [], ◌∷◌, None, Result, Ok, Err}
 use Rattle.std.specs.Prelude.{codes, ok_or, if◌then◌else◌}
 use Rattle.std.proofs.lemmas.Slice.Eq.{bytes_eq-Decides}
-use Rattle.answers.specs.Stages.{IsDecided}
-use Rattle.field_core.proofs.Results.{handed, same_value, same_fault}
+use Rattle.answers.proofs.Decided.{stage_decided}
+use Rattle.field_core.proofs.Results.{handed}
 use Rattle.command_words.specs.Asked.{Asked, StudyAsked}
 use Rattle.command_words.specs.Table.{verb_named}
-use Rattle.command_words.specs.Words.{stage_of, first_verb, asks_study, asked_in, study_after, study_in}
-
--- a result is of one kind, and holds one thing
-pub stage_decided : {A : Type 0} (r : Result A ℕ) → IsDecided (stage_of r)
-stage_decided r = record {
-  one = λ x y h k. same_value x y (sym h ∙ k);
-  one_refusal = λ m n h k. same_fault m n (sym h ∙ k);
-  not_both = λ x n h k. let e : Ok x ≡ Err n = sym h ∙ k in cc;
-}
+use Rattle.command_words.specs.Words.{first_verb, asks_study, asked_in, study_after, study_in}
 
 passed : {A : Type 0} (b : Bool) (r : Result A ℕ) (x : A) → (if b then r else Err 1) ≡ Ok x → b ≡ true
 passed true r x e = refl

@@ -1,8 +1,7 @@
 -- What lists of words ask for, or else the number, from 1, of the first word at which their reading from left to right fails.
-use Rattle.std.specs.Prelude.{◌≡◌, ℕ, ◌+◌, Bool, false, List, [], ◌∷◌, length, drop, codes, Option, Some, None, Result, Ok, Err, ok_or}
+use Rattle.std.specs.Prelude.{ℕ, ◌+◌, Bool, false, List, [], ◌∷◌, length, drop, codes, Option, Some, None, Result, Ok, Err, ok_or}
 use Rattle.std.specs.Prelude.{IsTrue, if◌then◌else◌}
 use Rattle.std.specs.Str.{bytes_eq}
-use Rattle.answers.specs.Stages.{Stage}
 use Rattle.field_core.specs.Answers.{◌>>=◌}
 use Rattle.command_words.specs.Asked.{Asked, StudyAsked}
 use Rattle.command_words.specs.Given.{GivenContent, nothing, not_given, with_text, asked_of, study_of, forbidden_word}
@@ -85,7 +84,3 @@ asked_in words = do
   given ← arguments_in verb words
   asked ← ok_or (asked_of verb given) (length words + 1)
   unless (forbidden_word given) asked
-
--- the reading of words as a stage of a call
-abbrev pub stage_of : {A : Type 0} → Result A ℕ → Stage ℕ A
-stage_of result = record { Gives = λ x. result ≡ Ok x; Refuses = λ n. result ≡ Err n }

@@ -1,7 +1,7 @@
 -- Each command is decided.
-use Rattle.std.proofs.Common.{sym, ◌∙◌, ℕ, List, Some, true≢false}
+use Rattle.std.proofs.Common.{ℕ, List, Some}
 use Rattle.answers.specs.Stages.{IsDecided}
-use Rattle.answers.proofs.Decided.{then_decided, told_as_decided, only_decided, within_decided}
+use Rattle.answers.proofs.Decided.{stage_decided, given_if_decided, then_decided, told_as_decided, told_if_decided, only_decided, within_decided}
 use Rattle.case_model.specs.Content.{Content}
 use Rattle.command_words.specs.Asked.{Asked, on_case as task_on_case, check, catalogue, sample, help}
 use Rattle.command_words.specs.declared.command.CaseTask.{CaseTask}
@@ -11,11 +11,11 @@ use Rattle.command_words.specs.declared.graph_name.SizedGraph.{SizedGraph}
 use Rattle.command_words.specs.declared.format.Format.{Format}
 use Rattle.command_words.specs.declared.format.Format.TheVariants as formats
 use Rattle.graph_cli.specs.Canon.{sheet_stage, canon_stage}
+use Rattle.graph_cli.specs.Catalogue.{refusal_of}
 use Rattle.graph_cli.specs.Graphs.{catalogue_stage, named_case, reported_size}
 use Rattle.graph_cli.specs.Help.{help_stage}
 use Rattle.graph_cli.specs.Troubles.{line_of}
 use Rattle.graph_cli.proofs.AcceptedCases.{accepted_decided}
-use Rattle.graph_cli.proofs.MadeAnswers.{made_decided}
 use Rattle.graph_cli.proofs.CheckAnswers.{check_decided}
 use Rattle.graph_cli.proofs.EvidenceAnswers.{evidence_decided}
 use Rattle.graph_cli.proofs.StagesAnswers.{stages_decided}
@@ -30,16 +30,12 @@ help_decided = only_decided _
 
 catalogue_decided : (graph : SizedGraph) → IsDecided (catalogue_stage graph)
 unfolding catalogue_stage
-catalogue_decided graph = then_decided _ _ (made_decided (reported_size graph) (named_case graph)) (λ c. only_decided _)
-
-sheet_decided : (c : Content) → IsDecided (sheet_stage c)
-unfolding sheet_stage
-sheet_decided c = record { one = λ a b h k. h.1 ∙ sym k.1; one_refusal = λ r q h k. h.1 ∙ sym k.1; not_both = λ a r h k. true≢false (sym h.0 ∙ k.0) }
+catalogue_decided graph = then_decided _ _ (told_if_decided (refusal_of (reported_size graph)) _ (stage_decided (named_case graph))) (λ c. only_decided _)
 
 canon_decided : (format : Format) (c : Content) → IsDecided (canon_stage format c)
-unfolding canon_stage
+unfolding canon_stage sheet_stage
 canon_decided formats.Text c = only_decided _
-canon_decided formats.Csv c = sheet_decided c
+canon_decided formats.Csv c = given_if_decided _ _ _
 canon_decided formats.Json c = only_decided _
 
 task_decided : (task : CaseTask) (c : Content) → IsDecided (on_case task c)

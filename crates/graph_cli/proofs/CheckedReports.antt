@@ -9,7 +9,7 @@ use Rattle.case_model.specs.declared.inputs.Inputs.TheVariants.{Bare, Single as 
 use Rattle.case_model.specs.Validity.{IsValidContent}
 use Rattle.command_words.specs.Asked.{check}
 use Rattle.command_words.specs.Words.{asked_in}
-use Rattle.command_words.proofs.Readings.{stage_decided}
+use Rattle.answers.proofs.Decided.{stage_decided}
 use Rattle.evidence_check.specs.declared.evidence.Evidence.{Evidence}
 use Rattle.evidence_check.specs.declared.verdict.Verdict.{Verdict}
 use Rattle.evidence_check.specs.declared.verdict.Verdict.TheVariants.{Yes, No}
@@ -17,6 +17,7 @@ use Rattle.evidence_check.specs.EvidenceView.{version_of, steps_of, keeps_of, Is
 use Rattle.evidence_check.specs.CaseCheck.{IsSingle, case_check, verdict_of}
 use Rattle.evidence_check.specs.DocumentStatements.{SaysEvidence}
 use Rattle.evidence_check.proofs.CaseChecked.{case_rejected, case_decides}
+use Rattle.evidence_check.proofs.DocumentLaws.{readings_are_evidence}
 use Rattle.evidence_check.proofs.CheckAnswers.{yes_is, of_case, evidence_stored, keeps_others}
 use Rattle.report.specs.CheckReport.{check_report}
 use Rattle.graph_cli.specs.Accepted.{IsOfKind, grammar}
@@ -69,7 +70,7 @@ checks_closed_test words format file case proof a asks (inl h) z =
     let single = subst (λ c. IsOfKind Single c.inputs) (sym gives.1.2.2.1.1) gives.1.2.2.1.0 in
     let proof_is = gives.2.1.0 in
     let said = gives.2.2.0 in
-    let found = gives.2.2.1 in
+    let found = readings_are_evidence gives.0 gives.2.0 said gives.2.2.1 in
     let answered = done_says_yes gives.0 said gives.2.2.2.0 a gives.2.2.2.2 z in
     let verdict_is = gives.2.2.2.1 ∙ ap Ok answered.0 in
     record {
@@ -79,7 +80,7 @@ checks_closed_test words format file case proof a asks (inl h) z =
       reports = subst (λ c. ReportsEvidence c proof a.text) content_is
           (reported gives.0 found.0 proof a.text (subst IsValidContent (sym content_is) (valid_said format _ draft read.1 read.2.0))
           (single_values gives.0.inputs (subst (λ (c : Content). IsOfKind Single c.inputs) (sym gives.1.2.2.2.1) single)) found.1
-          (subst (λ xs. SaysEvidence gives.0 xs found.0) proof_is found.2)
-          (subst (λ (s : Said). verdict_of (case_check gives.0 s.steps s.keeps) ≡ Ok Yes) found.3 verdict_is)
-          (answered.1 ∙ ap (λ (s : Said). check_report gives.0 s.version (listed_in s) (kept_in s)) found.3));
+          (subst (λ xs. SaysEvidence gives.0 xs found.0) proof_is (gives.2.2.1 ∙ ap Ok found.2))
+          (subst (λ (s : Said). verdict_of (case_check gives.0 s.steps s.keeps) ≡ Ok Yes) found.2 verdict_is)
+          (answered.1 ∙ ap (λ (s : Said). check_report gives.0 s.version (listed_in s) (kept_in s)) found.2));
     }

@@ -27,7 +27,7 @@ use Rattle.command_words.specs.Asked.{Encoding, text, csv, json, on_case}
 use Rattle.command_words.specs.declared.command.CaseTask.{CaseTask}
 use Rattle.command_words.specs.declared.command.CaseTask.TheVariants.{Test}
 use Rattle.command_words.specs.Words.{asked_in}
-use Rattle.command_words.proofs.Readings.{stage_decided}
+use Rattle.answers.proofs.Decided.{stage_decided}
 use Rattle.sequential.specs.declared.decision.StepLine.{StepLine}
 use Rattle.sequential.specs.declared.decision.Decision.{Decision}
 use Rattle.sequential.specs.Decisions.{hypotheses, IsDecision, IsDecisionWith}

@@ -12,6 +12,7 @@ use Rattle.evidence_check.specs.EvidenceView.{steps_of, keeps_of}
 use Rattle.evidence_check.proofs.CaseChecked.{case_decides}
 use Rattle.evidence_check.proofs.CheckAnswers.{yes_is, of_case, evidence_stored, keeps_others}
 use Rattle.evidence.proofs.EvidenceSaid.{said}
+use Rattle.evidence.proofs.MakeAnswers.{decision_order}
 use Rattle.sequential.specs.declared.decision.Decision.{Decision}
 use Rattle.sequential.specs.declared.priority.Priority.{Priority}
 use Rattle.sequential.specs.Decisions.{IsDecisionWith, IsDecision}
@@ -21,6 +22,7 @@ use Rattle.graph_cli.specs.Evidence.{IsFlowRun, text_said, evidence_stage}
 use Rattle.graph_cli.specs.Laws.{PrintsEvidence, EvidenceIsOfTheClosedTest}
 use Rattle.graph_cli.proofs.CheckedOrders.{checked_order}
 use Rattle.graph_cli.proofs.ClosedReports.{reports_case}
+use Rattle.graph_cli.proofs.FlowEvidence.{flown_evidence}
 
 -- there is a decision where there are single p-values
 single_inputs : (c : Content) (priority : Priority) (d : Decision) → IsDecision c priority d → IsSingle c.inputs
@@ -45,7 +47,7 @@ unfolding answers_on_case evidence_stage
 evidence_prints priority a c V h =
     -- the decision, the flow run and the check that the answer comes from
     let decision = h.0 in
-    let flown = h.2.1 in
+    let flown = flown_evidence c V decision (decision_order c priority decision V h.1.1) h.2.0 h.2.1 in
     let said_is = flown.2 in
     let text = h.2.2.0 in
     let confirmed = h.2.2.1 in

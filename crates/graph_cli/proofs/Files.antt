@@ -4,7 +4,8 @@ use Rattle.std.specs.Prelude.{IfSome, Err}
 use Rattle.std.specs.declared.option.Option.{Option}
 use Rattle.command_words.specs.Asked.{Asked, file_of}
 use Rattle.command_words.specs.Words.{asked_in, study_in}
-use Rattle.command_words.proofs.Readings.{stage_decided, one_reader}
+use Rattle.answers.proofs.Decided.{stage_decided}
+use Rattle.command_words.proofs.Readings.{one_reader}
 use Rattle.graph_cli.specs.Outcome.{AskFor, NamesFile}
 
 same_file : (o : Option ℕ) (i : ℕ) → o ≡ None → o ≡ Some i → ⊥

@@ -7,6 +7,7 @@ pub mod ClosedReports
 pub mod EvidenceAnswers
 pub mod EvidenceReports
 pub mod Files
+pub mod FlowEvidence
 pub mod HandedOn
 pub mod JsonRefused
 pub mod MadeAnswers

@@ -1,8 +1,7 @@
 -- Words, a case and a proof have at most one answer.
 use Rattle.std.proofs.Common.{Some}
-use Rattle.answers.proofs.Decided.{then_decided, told_as_decided, one_answer}
+use Rattle.answers.proofs.Decided.{stage_decided, then_decided, told_as_decided, one_answer}
 use Rattle.command_words.specs.Words.{asked_in}
-use Rattle.command_words.proofs.Readings.{stage_decided}
 use Rattle.refusals.specs.UsageRefusal.{usage}
 use Rattle.graph_cli.specs.Laws.{HasOneAnswer}
 use Rattle.graph_cli.specs.Outcome.{outcome}

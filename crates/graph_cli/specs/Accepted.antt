@@ -1,22 +1,20 @@
 -- The stages that commands have in common: the case is read, and tested whether the command can take it.
-use Rattle.std.specs.Prelude.{◌≡◌, ◌⊎◌, ◌+◌, ◌<◌, ◌≤◌, ℕ, List, [], Some, None, Option, length}
+use Rattle.std.specs.Prelude.{◌≡◌, ◌⊎◌, ◌+◌, ◌≤◌, ℕ, List, [], Option, length}
 use Rattle.std.specs.Io.KnownBytes.{IsAtEnd}
 use Rattle.graph_io.specs.Reading.{TookAtMost}
 use Rattle.answers.specs.declared.refusal.Refusal.{Refusal}
-use Rattle.answers.specs.Stages.{Stage, and_then, told_as, on_bytes, within, most_bytes}
-use Rattle.case_model.specs.declared.fault.CaseFault.{CaseFault}
+use Rattle.answers.specs.Stages.{Stage, stage_of, given_unless, given_if, and_then, told_as, on_bytes, within, most_bytes}
 use Rattle.case_model.specs.CaseFaults.{case_fault}
 use Rattle.case_model.specs.declared.inputs.Inputs.{Inputs}
 use Rattle.case_model.specs.declared.inputs.Inputs.TheVariants.{Bare as NoValues, Single as Values, Staged as Stages}
 use Rattle.case_model.specs.Content.{Content, content_of}
 use Rattle.case_model.specs.declared.draft.Draft.{Draft}
 use Rattle.command_words.specs.Asked.{Encoding, text, csv, json}
-use Rattle.edge_text.specs.Document.{IsText}
-use Rattle.edge_text.specs.Faults.{IsFirstFault}
+use Rattle.text_lines.specs.Faults.{FaultAt}
+use Rattle.edge_text.specs.Document.{text_reading}
 use Rattle.edge_text.specs.declared.fault.LineKind.{LineKind}
-use Rattle.case_csv.specs.Table.{cells_of, IsTable}
-use Rattle.case_csv.specs.Faults.{IsFirstFault as IsFirstBadCell}
-use Rattle.case_csv.specs.declared.fault.RowKind.{RowKind}
+use Rattle.case_csv.specs.Answers.{RowFault}
+use Rattle.case_csv.specs.Table.{cells_of, table_of}
 use Rattle.case_json.specs.Reading.{SaysDraft, HasFirstFault}
 use Rattle.case_json.specs.Values.{IsJson}
 use Rattle.case_json.specs.declared.fault.JsonFault.{JsonFault}
@@ -44,14 +42,8 @@ IsNoJson bytes = (value : Data) → ¬ IsJson bytes value
 
 -- the draft that bytes denote in a format, or the first place at which they are not allowed
 abbrev pub grammar : Encoding → List ℕ → Stage Refusal Draft
-grammar text bytes = record {
-  Gives = λ d. IsText bytes d;
-  Refuses = λ r. (n : ℕ) × (kind : LineKind) × IsFirstFault bytes n kind × (r ≡ line_refusal n kind);
-}
-grammar (csv alpha) bytes = record {
-  Gives = λ d. IsTable (cells_of bytes) alpha d;
-  Refuses = λ r. (row : ℕ) × (column : ℕ) × (kind : RowKind) × IsFirstBadCell (cells_of bytes) row column kind × (r ≡ cell_refusal row column kind);
-}
+grammar text bytes = told_as (λ (f : FaultAt LineKind). line_refusal f.line f.kind) (stage_of (text_reading bytes))
+grammar (csv alpha) bytes = told_as (λ (f : RowFault). cell_refusal f.row f.column f.kind) (stage_of (table_of alpha (cells_of bytes)))
 grammar json bytes = record {
   Gives = λ d. SaysDraft bytes d;
   Refuses = λ r. (IsNoJson bytes × (r ≡ syntax_refusal)) ⊎ ((fault : JsonFault) × HasFirstFault bytes fault × (r ≡ json_refusal fault));
@@ -59,10 +51,7 @@ grammar json bytes = record {
 
 -- the case of a draft, or its first fault
 abbrev pub faultless : Draft → Stage Refusal Content
-faultless d = record {
-  Gives = λ c. (case_fault d ≡ None) × (c ≡ content_of d);
-  Refuses = λ r. (fault : CaseFault) × (case_fault d ≡ Some fault) × (r ≡ case_refusal d.names fault);
-}
+faultless d = told_as (case_refusal d.names) (given_unless (case_fault d) (content_of d))
 
 -- the case that bytes denote in a format
 abbrev pub case_in : Encoding → List ℕ → Stage Refusal Content
@@ -83,17 +72,11 @@ IsOfKind Awaited (Values ps) = ⊥
 
 -- a case with p-values of a kind
 abbrev pub of_kind : InputKind → Content → Stage Trouble Content
-of_kind kind c = record {
-  Gives = λ x. IsOfKind kind c.inputs × (x ≡ c);
-  Refuses = λ r. ¬ IsOfKind kind c.inputs × (r ≡ troubles.Kind);
-}
+of_kind kind c = given_if (IsOfKind kind c.inputs) c troubles.Kind
 
 -- a case of at most this number of hypotheses
 abbrev pub of_size : ℕ → Content → Stage Trouble Content
-of_size most c = record {
-  Gives = λ x. (length c.names ≤ most) × (x ≡ c);
-  Refuses = λ r. (most < length c.names) × (r ≡ troubles.Closure (length c.names));
-}
+of_size most c = given_if (length c.names ≤ most) c (troubles.Closure (length c.names))
 
 -- a case that a command with these needs can take
 abbrev pub suitable : Needs → Content → Stage Trouble Content

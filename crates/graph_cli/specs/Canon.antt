@@ -1,8 +1,8 @@
 -- What `canon` answers.
-use Rattle.std.specs.Prelude.{◌≡◌, true, false}
+use Rattle.std.specs.Prelude.{◌≡◌, true}
 use Rattle.answers.specs.declared.answer.Answer.{Answer}
 use Rattle.answers.specs.Lines.{done}
-use Rattle.answers.specs.Stages.{Stage, only}
+use Rattle.answers.specs.Stages.{Stage, given_if, only}
 use Rattle.case_csv.specs.Sheet.{fits_sheet, sheet_text}
 use Rattle.case_json.specs.Written.{json_text}
 use Rattle.case_model.specs.Content.{Content}
@@ -14,10 +14,7 @@ use Rattle.graph_cli.specs.declared.trouble.Trouble.TheVariants as troubles
 
 -- the sheet of a case; a case that no sheet can hold is of the wrong kind
 unfoldable pub sheet_stage : Content → Stage Trouble Answer
-sheet_stage c = record {
-  Gives = λ a. (fits_sheet c ≡ true) × (a ≡ done (sheet_text c));
-  Refuses = λ r. (fits_sheet c ≡ false) × (r ≡ troubles.Kind);
-}
+sheet_stage c = given_if (fits_sheet c ≡ true) (done (sheet_text c)) troubles.Kind
 
 -- the canonical document of a case in a format
 unfoldable pub canon_stage : Format → Content → Stage Trouble Answer

@@ -4,10 +4,10 @@ use Rattle.graph_io.specs.Causes.{Rose}
 use Rattle.answers.specs.declared.answer.Answer.{Answer}
 use Rattle.answers.specs.declared.refusal.Refusal.{Refusal}
 use Rattle.answers.specs.Devices.{Reading}
-use Rattle.answers.specs.Stages.{Stage, and_then, told_as}
+use Rattle.answers.specs.Stages.{Stage, stage_of, and_then, told_as}
 use Rattle.answers.specs.Ways.{Ways, over_source}
 use Rattle.command_words.specs.Asked.{Asked, StudyAsked, file_of}
-use Rattle.command_words.specs.Words.{asked_in, study_in, stage_of}
+use Rattle.command_words.specs.Words.{asked_in, study_in}
 use Rattle.refusals.specs.UsageRefusal.{usage}
 use Rattle.graph_cli.specs.Commands.{call_of, TakesCase, TakesProof, StopsAtCase}
 

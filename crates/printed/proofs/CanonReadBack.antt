@@ -1,7 +1,5 @@
 -- What `canon` prints is read as the case that was read, and as no other.
 use Rattle.std.proofs.Common.{◌≡◌, refl, sym, ap, subst, ◌∙◌, ℕ, List, Option, Some, true}
-use Rattle.field_core.proofs.Results.{same_value, one_some}
-use Rattle.serde_json.specs.Read.{read}
 use Rattle.answers.specs.declared.answer.Answer.{Answer}
 use Rattle.answers.specs.declared.status.Status.TheVariants.{Done}
 use Rattle.answers.specs.Stages.{IsAnswerOf}
@@ -9,7 +7,6 @@ use Rattle.case_csv.proofs.SheetCases.{sheets_read_back}
 use Rattle.case_csv.specs.Sheet.{sheet_text}
 use Rattle.case_csv.specs.Table.{cells_of}
 use Rattle.case_json.proofs.WrittenCases.{reads_back}
-use Rattle.case_json.specs.Document.{document_of}
 use Rattle.case_json.specs.Written.{json_text}
 use Rattle.case_model.specs.Content.{Content, content_of, has_coefficients}
 use Rattle.case_model.specs.Validity.{IsValidContent}
@@ -19,8 +16,8 @@ use Rattle.command_words.specs.declared.command.CaseTask.TheVariants.{Canon}
 use Rattle.command_words.specs.declared.format.Format.{Format}
 use Rattle.command_words.specs.declared.format.Format.TheVariants.{Text, Csv, Json}
 use Rattle.edge_text.proofs.CanonicalCases.{canonical_reads_back}
-use Rattle.edge_text.proofs.TextLaws as texts
 use Rattle.edge_text.specs.CanonicalText.{canonical_text}
+use Rattle.graph_cli.proofs.AcceptedCases.{case_decided}
 use Rattle.graph_cli.proofs.ClosedReports.{valid_said, reports_case}
 use Rattle.graph_cli.specs.Accepted.{grammar, case_in}
 use Rattle.graph_cli.specs.Canon.{canon_stage, sheet_stage}
@@ -32,17 +29,7 @@ use Rattle.printed.proofs.WholeDrafts.{IsWhole, whole_content}
 use Rattle.printed.proofs.WholeJson.{json_whole}
 use Rattle.printed.proofs.WholeTexts.{text_whole, sheet_draft_whole}
 
--- ---- one reading
-
-one_draft : (format : Encoding) (bytes : List ℕ) (d e : Draft) → (grammar format bytes).Gives d → (grammar format bytes).Gives e → d ≡ e
-one_draft text bytes d e h k = texts.one_draft bytes d e h k
-one_draft (csv alpha) bytes d e h k = same_value d e (sym h ∙ k)
-one_draft json bytes d e h k =
-    same_value d e (sym h.2 ∙ ap document_of (one_some (read bytes) h.0 k.0 h.1.1 k.1.1) ∙ k.2)
-
--- bytes say at most one case
-pub one_content : (format : Encoding) (bytes : List ℕ) (c d : Content) → (case_in format bytes).Gives c → (case_in format bytes).Gives d → c ≡ d
-one_content format bytes c d h k = h.2.1 ∙ ap content_of (one_draft format bytes h.0 k.0 h.1 k.1) ∙ sym k.2.1
+-- ---- what is read
 
 -- what bytes say has edges with a coefficient for each power
 draft_whole : (format : Encoding) (bytes : List ℕ) (d : Draft) → (grammar format bytes).Gives d → IsWhole d
@@ -82,7 +69,7 @@ module _ (c : Content) (v : IsValidContent c) (h : has_coefficients c.components
 
 -- a text that is read as a case is read as no other
 pub read_as : (to : Format) (c : Content) (printed : List ℕ) → (case_in (read_again to c) printed).Gives c → IsReadAs to c printed
-read_as to c printed g = record { reads = g; only = λ d k. one_content (read_again to c) printed d c k g }
+read_as to c printed g = record { reads = g; only = λ d k. (case_decided (read_again to c) printed).one d c k g }
 
 -- ---- the laws
 
@@ -117,7 +104,7 @@ same_reading Json c d e = refl
 -- the case that bytes say is that of the draft which they say
 said_case : (format : Encoding) (bytes : List ℕ) (to : Format) (a : Answer) (c : Content) (r : ReportsCase (Prints to a) format bytes a.text)
     → (case_in format bytes).Gives c → content_of r.draft ≡ c
-said_case format bytes to a c r g = one_content format bytes (content_of r.draft) c (r.draft, r.says, (r.faultless, refl)) g
+said_case format bytes to a c r g = (case_decided format bytes).one (content_of r.draft) c (r.draft, r.says, (r.faultless, refl)) g
 
 pub canon_apart : CanonTellsCasesApart
 canon_apart words others format other_format to bytes other proof other_proof a b c d asks other_asks h k z y g f =
@@ -131,6 +118,6 @@ canon_apart words others format other_format to bytes other proof other_proof a 
     let printed_also = text_is to (content_of s.draft) b s.reports in
     record {
       same_text = λ e. printed ∙ ap (text_in to) (one ∙ e ∙ sym two) ∙ sym printed_also;
-      same_case = λ levels e. one_content (read_again to d) b.text c d
+      same_case = λ levels e. (case_decided (read_again to d) b.text).one c d
           (subst (λ t. (case_in (read_again to d) t).Gives c) e (subst (λ format. (case_in format a.text).Gives c) (same_reading to c d levels) first)) second;
     }

@@ -7,7 +7,7 @@ use Rattle.command_words.specs.Asked.{text, catalogue}
 use Rattle.command_words.specs.declared.format.Format.TheVariants.{Text}
 use Rattle.command_words.specs.declared.graph_name.SizedGraph.{SizedGraph}
 use Rattle.command_words.specs.Words.{asked_in}
-use Rattle.command_words.proofs.Readings.{stage_decided}
+use Rattle.answers.proofs.Decided.{stage_decided}
 use Rattle.graph_cli.proofs.ClosedReports.{not_done}
 use Rattle.graph_cli.specs.Accepted.{case_in}
 use Rattle.graph_cli.specs.Commands.{call_of}

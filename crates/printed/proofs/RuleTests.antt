@@ -13,11 +13,11 @@ use Rattle.case_model.specs.declared.inputs.Inputs.TheVariants.{Single as Values
 use Rattle.command_words.specs.Asked.{Encoding, on_case}
 use Rattle.command_words.specs.declared.command.CaseTask.TheVariants.{Test}
 use Rattle.command_words.specs.Words.{asked_in}
-use Rattle.command_words.proofs.Readings.{stage_decided}
+use Rattle.answers.proofs.Decided.{stage_decided}
 use Rattle.sequential.specs.OtherPValues.{with_p}
 use Rattle.sequential.specs.declared.priority.Priority.{Priority}
 use Rattle.textbook.specs.DefinedDecisions.{IsNeverWide}
-use Rattle.graph_cli.proofs.AcceptedCases.{accepted_decided}
+use Rattle.graph_cli.proofs.AcceptedCases.{case_decided, accepted_decided}
 use Rattle.graph_cli.proofs.ClosedReports.{reports_closed_test}
 use Rattle.graph_cli.specs.Accepted.{IsOfKind, accepted, case_in}
 use Rattle.graph_cli.specs.Commands.{needs_of, call_of, case_call, on_case as answers_on_case}
@@ -28,7 +28,6 @@ use Rattle.graph_cli.specs.declared.kind.InputKind.TheVariants.{Single}
 use Rattle.graph_cli.specs.declared.trouble.Trouble.{Trouble}
 use Rattle.printed.specs.Catalogue.{IsTestedBy, DecidesBy}
 use Rattle.printed.specs.Rules.{ReportsRule}
-use Rattle.printed.proofs.CanonReadBack.{one_content}
 
 -- a decision that is never too wide isn't refused
 never_refused : (priority : Priority) (c : Content) (q : Trouble) → IsNeverWide c → (answers_on_case (Test priority) c).Refuses q → ⊥
@@ -95,7 +94,7 @@ module _ (Rejects : ℕ → Type 0) (c : Content) (ps : List Ratio) (single : c.
   tested words format priority bytes proof a g within asks (inl h) =
       let done = given_done words format priority bytes proof a asks h in
       let r = reports_closed_test words format priority bytes proof a asks (inl h) done in
-      let same = one_content format bytes (content_of r.draft) c (r.draft, r.says, (r.faultless, refl)) g in
+      let same = (case_decided format bytes).one (content_of r.draft) c (r.draft, r.says, (r.faultless, refl)) g in
       (done, rule_reported priority a.text (subst (λ x. ReportsClosedTest priority x a.text) same r.reports))
 
 -- ---- a case without p-values, by whatever p-values

@@ -21,7 +21,7 @@ use Rattle.staged_levels.specs.declared.event.Settled.{Settled}
 use Rattle.graph_cli.specs.Laws.{ReportsStagedTest}
 use Rattle.graph_cli.proofs.StagedReports.{reports_staged_test}
 use Rattle.printed.specs.Stages.{HaveSameArrivals, StagesAgreeInEveryOrder}
-use Rattle.printed.proofs.CanonReadBack.{one_content}
+use Rattle.graph_cli.proofs.AcceptedCases.{case_decided}
 
 -- ---- the test
 
@@ -85,8 +85,8 @@ pub stages_agree : StagesAgreeInEveryOrder
 stages_agree words others format other_format case other proof other_proof a b c d asks other_asks h k z y g f D =
     let r = reports_staged_test words format case proof a asks h z in
     let s = reports_staged_test others other_format other other_proof b other_asks k y in
-    let one = subst (λ x. ReportsStagedTest x a.text) (one_content format case (content_of r.draft) c (r.draft, r.says, (r.faultless, refl)) g) r.reports in
-    let two = subst (λ x. ReportsStagedTest x b.text) (one_content other_format other (content_of s.draft) d (s.draft, s.says, (s.faultless, refl)) f) s.reports in
+    let one = subst (λ x. ReportsStagedTest x a.text) ((case_decided format case).one (content_of r.draft) c (r.draft, r.says, (r.faultless, refl)) g) r.reports in
+    let two = subst (λ x. ReportsStagedTest x b.text) ((case_decided other_format other).one (content_of s.draft) d (s.draft, s.says, (s.faultless, refl)) f) s.reports in
     record {
       looks = one.looks;
       other_looks = two.looks;

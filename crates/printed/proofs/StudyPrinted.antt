@@ -12,7 +12,7 @@ use Rattle.case_model.specs.LegalOrder.{IsListed}
 use Rattle.case_model.specs.StagedCase.{IsStagedRejectedIn}
 use Rattle.case_model.specs.Validity.{IsValidContent}
 use Rattle.command_words.specs.Words.{study_in}
-use Rattle.command_words.proofs.Readings.{stage_decided}
+use Rattle.answers.proofs.Decided.{stage_decided}
 use Rattle.refusals.specs.WideRefusal.{wide_refusal}
 use Rattle.refusals.specs.declared.wide.When.TheVariants.{Look as AfterLook}
 use Rattle.report.specs.StudyReport.{Reply, taken, shown, is_among}

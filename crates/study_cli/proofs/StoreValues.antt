@@ -6,7 +6,7 @@ use Rattle.std.specs.declared.option.Option.{Option}
 use Rattle.std.specs.declared.option.Option.TheVariants.{Some, None}
 use Rattle.command_words.specs.Asked.{StudyAsked}
 use Rattle.command_words.specs.Words.{study_in}
-use Rattle.command_words.proofs.Readings.{stage_decided}
+use Rattle.answers.proofs.Decided.{stage_decided}
 use Rattle.graph_cli.specs.Outcome.{AskStudy}
 use Rattle.study_cli.specs.StudyOutcome.{NamesStore}
 

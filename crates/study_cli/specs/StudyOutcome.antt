@@ -7,11 +7,12 @@ use Rattle.answers.specs.declared.answer.Answer.{Answer}
 use Rattle.answers.specs.declared.refusal.Refusal.{Refusal}
 use Rattle.answers.specs.declared.stop.Stop.{Stop}
 use Rattle.answers.specs.Devices.{Reading, Keeping}
-use Rattle.answers.specs.Stages.{Stage, and_then, told_as, on_bytes, within}
+use Rattle.answers.specs.Stages.{Stage, stage_of, and_then, told_as, on_bytes, within}
 use Rattle.answers.specs.Ways.{Ways}
 use Rattle.case_model.specs.Content.{Content}
 use Rattle.command_words.specs.Asked.{StudyAsked}
-use Rattle.command_words.specs.Words.{study_in, stage_of}
+use Rattle.command_words.specs.Words.{study_in}
+use Rattle.text_lines.specs.Faults.{FaultAt}
 use Rattle.edge_text.specs.declared.fault.LineKind.{LineKind}
 use Rattle.refusals.specs.TextRefusal.{commands_refusal}
 use Rattle.refusals.specs.UsageRefusal.{usage}
@@ -20,8 +21,7 @@ use Rattle.graph_cli.specs.Outcome.{AskStudy}
 use Rattle.graph_cli.specs.declared.kind.InputKind.TheVariants.{Awaited}
 use Rattle.graph_cli.specs.declared.needs.Needs.{Needs}
 use Rattle.study_cli.specs.Asking.{looks_asked}
-use Rattle.study_cli.specs.CommandLines.{AreCommands}
-use Rattle.study_cli.specs.CommandFaults.{IsFirstFault}
+use Rattle.study_cli.specs.Commands.{commands_of}
 use Rattle.study_cli.specs.declared.command.StudyCommand.{StudyCommand}
 use Rattle.study_cli.specs.AnswerView.{MayKeep}
 use Rattle.study_cli.specs.KeeperWays.{over_keeper}
@@ -33,10 +33,7 @@ study_needs = record { kind = Awaited; most = 64 }
 
 -- the commands that a text denotes for a case, or the first line that denotes none
 abbrev pub commands_in : Content → List ℕ → Stage Refusal (List StudyCommand)
-commands_in c bytes = record {
-  Gives = λ commands. AreCommands c.names bytes commands;
-  Refuses = λ r. (n : ℕ) × (kind : LineKind) × IsFirstFault c.names bytes n kind × (r ≡ commands_refusal n kind);
-}
+commands_in c bytes = told_as (λ (f : FaultAt LineKind). commands_refusal f.line f.kind) (stage_of (commands_of c.names bytes))
 
 -- the case that a source denotes, if a study can take it
 abbrev pub case_of : StudyAsked → Option (List ℕ) → Stage Refusal Content

@@ -28,7 +28,8 @@ handed_on (Err x) Good fault e h = subst Good (sym e) h
 pub opened_defined : (c : Content) (t : StudyContent) → IsStudy c t → t.looks ≡ start → IsDefined c start
 opened_defined c t T e = subst (IsDefined c) e (study_defined c t T)
 
-first_not_fault : (c : Content) (ls : List Look) (old : StudyState) (n : ℕ) → ¬ IsFirstStop c old n ls Fault
+-- no look is the first to stop for a fault of the keeper
+pub first_not_fault : (c : Content) (ls : List Look) (old : StudyState) (n : ℕ) → ¬ IsFirstStop c old n ls Fault
 first_not_fault c [] old n h = h
 first_not_fault c (l ∷ ls) old n (inl h) = h
 first_not_fault c (l ∷ ls) old n (inr h) = first_not_fault c ls h.0 (n + 1) h.2

@@ -1,6 +1,6 @@
 //! Refusals of sizes and seeds from which no case is made.
-ghost use Rattle.std.specs.Prelude.{IfOk};
-ghost use Rattle.graph_cli.specs.Catalogue.{ReportsFault};
+ghost use Rattle.std.specs.Prelude.{◌≡◌, IfOk, Some};
+ghost use Rattle.graph_cli.specs.Catalogue.{refusal_of};
 
 use answers::Refusal;
 use catalogue::{CatalogueFault, names};
@@ -16,7 +16,7 @@ pub fn catalogue_refusal(
     size: u64,
     fault: &CatalogueFault,
 ) -> Result<Refusal, NoMemory>
-    ensures { IfOk result (ReportsFault size fault.now) }
+    ensures { IfOk result (λ refusal. refusal_of size fault.now ≡ Some refusal) }
 {
     match fault {
         CatalogueFault::Size(n) => size_refusal(alloc, *n),

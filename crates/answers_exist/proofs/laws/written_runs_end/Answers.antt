@@ -1,7 +1,9 @@
 use Rattle.std.proofs.Common.{inl, inr}
+use Rattle.answers.proofs.Decided.{stage_ends}
+use Rattle.evidence.specs.CaseFlows.{case_flows}
+use Rattle.graph_cli.proofs.FlowEvidence.{flow_evidence}
 use Rattle.answers_exist.proofs.AdjustedRuns.{adjusted_or_wide}
 use Rattle.answers_exist.proofs.Decisions.{decision_or_wide}
-use Rattle.answers_exist.proofs.FlowEvidence.{flows_or_wide}
 use Rattle.answers_exist.proofs.SetRuns.{runs_or_wide, weights_exist}
 use Rattle.answers_exist.proofs.StageLooks.{looks_or_wide}
 use Rattle.answers_exist.proofs.laws.written_runs_end.Goals as goal
@@ -19,4 +21,7 @@ pub returns-clause-sets : goal.returns-clause-sets
 returns-clause-sets c = λ k V. elim (runs_or_wide k) [ inl D ↦ inl (D, weights_exist k V D) | inr f ↦ inr f ]
 
 pub returns-clause-flows : goal.returns-clause-flows
-returns-clause-flows c = λ k js V o. flows_or_wide k V js o
+returns-clause-flows c = λ k js V o. elim (stage_ends (case_flows k js)) [
+  | inl v ↦ (let e = flow_evidence k V js o v.0 v.1 in inl (e.0, e.1, e.2, e.3))
+  | inr w ↦ inr w
+]

@@ -1,4 +1,6 @@
 use Rattle.std.proofs.Common.{inl, inr, ◌∙◌, ap}
+use Rattle.field_core.proofs.Results.{handed}
+use Rattle.case_csv.specs.Answers.{RowFault}
 use Rattle.case_csv.specs.Reading.{IsCsvFault}
 use Rattle.refusals.specs.CaseRefusal.{case_refusal}
 use Rattle.graph_cli.proofs.accepted.csv_case.Goals as goal
@@ -11,13 +13,8 @@ returns-in-Ok c =
 pub returns-in_ok-cell_refusal-in-Err-Row : goal.returns-in_ok-cell_refusal-in-Err-Row
 unfolding IsCsvFault
 returns-in_ok-cell_refusal-in-Err-Row c =
-    inl (
-      c.in-Err-Row.row,
-      c.in-Err-Row.column,
-      c.in-Err-Row.kind,
-      rw c.in-Err-Row.field-0-is at c.in-Err-Row.ensures.fault,
-      c.in_ok-cell_refusal-in-Err-Row.ensures,
-    )
+    let fault : RowFault = record { row = c.in-Err-Row.row; column = c.in-Err-Row.column; kind = c.in-Err-Row.kind } in
+    inl (fault, handed _ _ fault (rw c.in-Err-Row.field-0-is at c.in-Err-Row.ensures.fault), c.in_ok-cell_refusal-in-Err-Row.ensures)
 
 pub returns-in_ok-case_refusal-in-Err-Case : goal.returns-in_ok-case_refusal-in-Err-Case
 unfolding IsCsvFault

@@ -8,7 +8,7 @@ pub returns-then-size-needs : goal.returns-then-size-needs
 returns-then-size-needs c =
     let kind : IsTrue c.is_of.result = search (rules, tests) in
     let count = c.size.ensures.count in
-    inr (content c.args.case.now, (c.is_of.ensures.0 kind, refl), (omega arith, ap Closure c.size-then-size-needs.ensures.count))
+    inr (content c.args.case.now, (c.is_of.ensures.0 kind, refl), (λ few. omega (arith, few), ap Closure c.size-then-size-needs.ensures.count))
 
 pub returns : goal.returns
 returns c =

@@ -6,7 +6,8 @@ use Rattle.graph_cli.proofs.accepted.text_case.Goals as goal
 pub returns-in_ok-line_refusal-in-Err-Line : goal.returns-in_ok-line_refusal-in-Err-Line
 unfolding IsTextFault
 returns-in_ok-line_refusal-in-Err-Line c =
-    inl (c.in-Err-Line.n, c.in-Err-Line.kind, rw c.in-Err-Line.field-0-is at c.in-Err-Line.ensures.fault, c.in_ok-line_refusal-in-Err-Line.ensures)
+    let line = c.in-Err-Line in
+    inl (record { line = line.n; kind = line.kind }, rw line.field-0-is at line.ensures.fault, c.in_ok-line_refusal-in-Err-Line.ensures)
 
 pub returns-in_ok-case_refusal-in-Err-Case : goal.returns-in_ok-case_refusal-in-Err-Case
 unfolding IsTextFault

@@ -8,8 +8,7 @@ returns-in-Ok-clause-ends c = commands_found (content c.args.case.now).names c.a
 pub returns-in_ok-commands_refusal-in-Err-Line-clause-ends : goal.returns-in_ok-commands_refusal-in-Err-Line-clause-ends
 returns-in_ok-commands_refusal-in-Err-Line-clause-ends c =
     let e = c.in-Err-Line in (
-      e.n,
-      e.kind,
+      record { line = e.n; kind = e.kind },
       commands_refused (content c.args.case.now).names c.args.bytes.now e.n e.kind (rw e.field-0-is at e.ensures.read),
       c.in_ok-commands_refusal-in-Err-Line.ensures,
     )

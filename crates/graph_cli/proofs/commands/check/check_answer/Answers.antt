@@ -1,4 +1,4 @@
-use Rattle.std.proofs.Common.{inl, inr, refl}
+use Rattle.std.proofs.Common.{inl, inr}
 use Rattle.case_model.specs.CaseView.{content}
 use Rattle.evidence_check.proofs.DocumentLaws.{evidence_found}
 use Rattle.graph_cli.specs.Check.{said_of, check_stage}
@@ -19,7 +19,7 @@ returns-in_err-verdict c =
     let proof = c.in_ok-proof.proof in
     err_on _ _ _ c.from_residual-in_err-verdict.ensures.1 (inr (
       said_of proof,
-      (proof, c.in_ok-proof.ensures.fits, evidence_found (content c.args.case.now) c.args.bytes.now proof c.in_ok-proof.ensures.read, refl),
+      evidence_found (content c.args.case.now) c.args.bytes.now proof c.in_ok-proof.ensures.read,
       inl c.in_err-verdict.ensures,
     ))
 
@@ -28,6 +28,6 @@ unfolding check_stage
 returns c =
     let proof = c.in_ok-proof.proof in (
       said_of proof,
-      (proof, c.in_ok-proof.ensures.fits, evidence_found (content c.args.case.now) c.args.bytes.now proof c.in_ok-proof.ensures.read, refl),
+      evidence_found (content c.args.case.now) c.args.bytes.now proof c.in_ok-proof.ensures.read,
       (c.in_ok-verdict.verdict, c.in_ok-verdict.ensures, c.in_ok-answer_to.ensures),
     )
