@@ -5,6 +5,7 @@ pub mod CataloguePrinted
 pub mod EvidenceConfirmed
 pub mod FilledCases
 pub mod GateCases
+pub mod LesserReports
 pub mod NamedGraphs
 pub mod RuleTests
 pub mod RulesDecide

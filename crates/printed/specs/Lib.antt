@@ -3,6 +3,7 @@ pub mod Bounds
 pub mod Canon
 pub mod Catalogue
 pub mod Confirmed
+pub mod Lesser
 pub mod Rules
 pub mod Sets
 pub mod Simes

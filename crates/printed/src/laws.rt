@@ -4,6 +4,7 @@ ghost use Rattle.printed.specs.Bounds.{BoundsAreOfTheClosedTest};
 ghost use Rattle.printed.specs.Canon.{CanonIsReadAsTheCase, CanonTellsCasesApart};
 ghost use Rattle.printed.specs.Catalogue.{CatalogueIsOfTheNamedGraphs};
 ghost use Rattle.printed.specs.Confirmed.{EvidenceIsConfirmedByCheck};
+ghost use Rattle.printed.specs.Lesser.{LesserPValuesRejectNoLess};
 ghost use Rattle.printed.specs.Rules.{HolmGraphsAreTestedByHolm, SequencesAreTestedInOrder, FallbacksAreTestedByFallback};
 ghost use Rattle.printed.specs.Rules.{GatesAreTestedByGatekeeping};
 ghost use Rattle.printed.specs.Simes.{SimesReportsAreOfTheSimesTest};
@@ -24,6 +25,12 @@ pub fn canon_is_read_as_the_case()
 /// have a canonical text of more, which is then refused as too long.)
 pub fn canon_is_answered_as_the_case()
     ensures { CanonIsAnsweredAsTheCase }
+{}
+
+/// `test` rejects no less where p-values fall. Two cases differ at most in their p-values, of which some fall and none rises. If
+/// both are answered with status 0, by whatever priorities and formats, the second report names each hypothesis that the first names.
+pub fn lesser_p_values_reject_no_less()
+    ensures { LesserPValuesRejectNoLess }
 {}
 
 /// What `evidence` prints with status 0, by any priority, is confirmed by `check`, if it has at most 4,194,304 bytes. On the same

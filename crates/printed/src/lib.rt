@@ -8,6 +8,8 @@
 //!   stated of sheets with the same level.
 //! - `canon_is_answered_as_the_case`: if what `canon` prints has at most 4,194,304 bytes, each command that reads a case has the
 //!   same answers on it as on the case.
+//! - `lesser_p_values_reject_no_less`: where some p-values of a case fall and none rises, `test` names as rejected each hypothesis
+//!   that it named before.
 //! - `evidence_is_confirmed_by_check`: if what `evidence` prints has at most 4,194,304 bytes, `check` for the same case answers
 //!   `yes` with status 0, and nothing else. It lists the hypotheses of the steps, and keeps the others.
 //! - `simes_reports_are_of_the_simes_test`: what `simes` prints names as rejected exactly the hypotheses that the closed test
