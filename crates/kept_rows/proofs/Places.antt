@@ -1,5 +1,5 @@
 -- Rows at places that count from one.
-use Rattle.std.proofs.Common.{◌≡◌, ◌<◌, ◌+◌, ◌+ℤ◌, ℕ, ℤ, suc, pos, List, [], ◌∷◌, ◌++◌, length, fold, map, flat_map, refl, sym, ap, subst, ◌∙◌, arith, Less}
+use Rattle.std.proofs.Common.{◌≡◌, ◌<◌, ◌+◌, ◌+ℤ◌, ℕ, ℤ, suc, pos, List, [], ◌∷◌, ◌++◌, length, fold, map, flat_map, refl, ap, ◌∙◌, arith, Less}
 use Rattle.std.proofs.lemmas.Int.{ints}
 use Rattle.std.proofs.lemmas.Bool.Decides.{nat_tests}
 use Rattle.std.specs.List.{AllByRecursion}

@@ -8,7 +8,7 @@ use Rattle.kept_rows.proofs.Meaning.{makes, again, puts, shows, rows_stay}
 use Rattle.sqlite.specs.Closing.{IsCopied}
 use Rattle.sqlite.specs.Effect.{Database}
 use Rattle.sqlite.specs.Files as files
-use Rattle.sqlite.specs.Files.{HoldsDatabase, file_state, over_files, image_of}
+use Rattle.sqlite.specs.Files.{file_state, over_files}
 use Rattle.sqlite.specs.Held.{Held, state}
 use Rattle.sqlite.specs.Recovery.{Image}
 use Rattle.sqlite.specs.Start.{FindsIn}
