@@ -6,11 +6,12 @@ has_update <- function() .Call(C_welungad_has_update)
 # The graphs before the first removal and after each. A graph of fractions is the one before without one hypothesis, which takes less time than
 # all removals anew. The library reads no quotients in epsilon, and no fractions with parts above 10^18: then all are made anew.
 graphs_of_library <- function(graph, deleted) {
+  is_plain <- !has_epsilon(graph)
   graphs <- list(graph)
   for (k in seq_along(deleted)) {
     before <- graphs[[k]]
     one <- function() updated_by_library(before, match(graph$names[deleted[k]], before$names))
-    updated <- if (!has_epsilon(before)) tryCatch(one(), welungad_refusal = function(refusal) NULL)
+    updated <- if (is_plain) tryCatch(one(), welungad_refusal = function(refusal) NULL)
     graphs[[k + 1L]] <- if (is.null(updated)) updated_by_library(graph, deleted[seq_len(k)]) else updated
   }
   graphs

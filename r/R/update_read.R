@@ -17,8 +17,8 @@ read_graph <- function(graph, ways, deleted) {
   left <- setdiff(seq_along(graph$names), deleted)
   labels <- graph$labels[left]
   components <- Map(function(way, component) {
-    edges <- if (length(graph$names) > most_read) edges_left_out(length(left)) else read_edges(way, deleted, left)
-    weights <- as.character(read_weights(way, deleted))
+    edges <- if (length(graph$names) > most_read) edges_left_out(length(left)) else edges_after(way, deleted, left)
+    weights <- as.character(weights_after(way, deleted))
     list(share = component$share, weights = stats::setNames(weights, labels), edges = array(edges, dim(edges), list(labels, labels)))
   }, ways, graph$components)
   read <- list(names = graph$names[left], labels = labels, components = unname(components))
@@ -60,13 +60,13 @@ read_all <- function(way, deleted) {
 
 # The weights of a component after removals. A removed hypothesis may have had no weight. Then what the same weights give is taken off twice
 # the mean: weights after removals are sums over the weights before.
-read_weights <- function(way, deleted) {
+weights_after <- function(way, deleted) {
   own <- way$own(deleted)
   if (is.null(own)) 2 * way$mean(deleted) - way$even(deleted) else fraction(own)
 }
 
 # The edges of a component after removals.
-read_edges <- function(way, deleted, left) {
+edges_after <- function(way, deleted, left) {
   edges <- matrix("0", length(left), length(left))
   if (length(left) < 2) return(edges)
   now <- way$even(deleted)

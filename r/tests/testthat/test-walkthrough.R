@@ -1,5 +1,5 @@
 test_that("the walkthrough prints what is stored", {
-  skip_if_not(welungad_found(), "neither the C library nor the program is found")
+  skip_if_not(prints_graphs(welungad_way()), "the library that prints updated graphs is not found")
   folder <- system.file("walkthrough", package = "welungad")
   skip_if_not(nzchar(folder))
   library <- paste0("R_LIBS=", paste(.libPaths(), collapse = .Platform$path.sep))
