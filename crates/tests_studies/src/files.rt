@@ -55,12 +55,21 @@ fn keeper_over(rt: &HostRuntime, path: &str) -> Option<FileKeeper<Unknown>> {
     Some(FileKeeper::new(connection))
 }
 
-/// Puts looks into a keeper, up to the first that it refuses.
-fn put<K: Keeper>(alloc: Global, keeper: &mut K, looks: &[Look]) -> Result<(), KeeperFault> {
+/// Puts looks into a file, up to the first that its keeper refuses.
+fn put(alloc: Global, keeper: &mut FileKeeper<Unknown>, looks: &[Look]) -> Result<(), KeeperFault> {
     for look in looks {
         keeper.append(alloc, look)?;
     }
     Ok(())
+}
+
+/// Returns a keeper in memory with these looks, unless it refuses one.
+fn memory_of(alloc: Global, looks: &[Look]) -> Option<MemoryKeeper> {
+    let mut memory = MemoryKeeper::new(List::new(alloc));
+    for look in looks {
+        memory.append(alloc, look).ok()?;
+    }
+    Some(memory)
 }
 
 /// Puts looks into a file through a keeper of its own, and returns the keeper's answer, unless it can't be made or closed.
@@ -198,10 +207,9 @@ fn two_runs_keep_what_one_keeps_in_memory(rt: HostRuntime) {
     assert!(rt; put_at(&rt, path, front.as_slice()) == Some(Ok(())));
     let rest = mixed(rt.alloc(), 61, 100).expect(&rt, "looks");
     assert!(rt; put_at(&rt, path, rest.as_slice()) == Some(Ok(())));
-    let mut memory = MemoryKeeper::new(List::new(rt.alloc()));
     let all = mixed(rt.alloc(), 0, 100).expect(&rt, "looks");
     let looks = looks_of(rt.alloc(), all.as_slice()).expect(&rt, "looks");
-    assert!(rt; put(rt.alloc(), &mut memory, looks.as_slice()).is_ok());
+    let memory = memory_of(rt.alloc(), looks.as_slice()).expect(&rt, "a keeper");
     let mut loaded = List::new(rt.alloc());
     assert!(rt; load_at(&rt, path, &mut loaded) == Some(Ok(())));
     assert!(rt; loaded.len() == 100);

@@ -4,6 +4,7 @@ use field_core::List;
 use graph_io::{MemorySink, MemorySource};
 use std::alloc::Global;
 use study_cli::run_study;
+use study_sqlite::{FileKeeper, Start};
 
 /// A staged case of two hypotheses. At half the level each stage has 1/80, at the whole level 1/40.
 pub const CASE: &[u8] = b"alpha 0.05
@@ -32,26 +33,28 @@ fn source(alloc: Global, bytes: &[u8]) -> Option<MemorySource> {
     Some(MemorySource::new(List::of(bytes.to_vec(alloc).ok()?)))
 }
 
-/// Runs commands on the case over the file of looks at a path. Returns the status and what is printed, or nothing when
-/// out of memory or the file cannot be closed.
-fn run_over(rt: &HostRuntime, path: &str, commands: &[u8]) -> Option<(u8, Vec<u8>)> {
-    let alloc = rt.alloc();
+/// Runs commands on the case over a keeper. Returns the status and what is printed, or nothing when out of memory.
+fn run_from<S: Start>(
+    alloc: Global,
+    keeper: &mut FileKeeper<S>,
+    commands: &[u8],
+) -> Option<(u8, Vec<u8>)> {
     let words = words(alloc)?;
     let mut case = source(alloc, CASE)?;
     let mut commands = source(alloc, commands)?;
     let mut out = MemorySink::with_room(alloc, 4096).ok()?;
-    let mut keeper = keeper_at(rt, path)?;
     let words = words.as_slice();
-    let status = run_study(
-        alloc,
-        words,
-        &mut case,
-        &mut commands,
-        &mut keeper,
-        &mut out,
-    );
-    keeper.close().ok()?;
+    let status = run_study(alloc, words, &mut case, &mut commands, keeper, &mut out);
     Some((status, out.held().to_vec(alloc).ok()?))
+}
+
+/// Runs commands on the case over the file of looks at a path. Returns the status and what is printed, or nothing when
+/// out of memory or the file cannot be closed.
+fn run_over(rt: &HostRuntime, path: &str, commands: &[u8]) -> Option<(u8, Vec<u8>)> {
+    let mut keeper = keeper_at(rt, path)?;
+    let ended = run_from(rt.alloc(), &mut keeper, commands);
+    keeper.close().ok()?;
+    ended
 }
 
 /// Whether a run over the file at a path ends with status 0 and prints this text.

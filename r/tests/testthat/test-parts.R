@@ -38,8 +38,9 @@ test_that("a name that is no part of a result is an error, and so is the beginni
     for (result in results) {
       kind <- class(result)[1]
       expect_error(result$somebody, paste0("^a ", kind, " has no part \"somebody\", but "), info = kind)
-      part <- names(unclass(result))[1]
-      expect_identical(part_by(result, part), unclass(result)[[1]], info = kind)
+      parts <- parts_in(result)
+      part <- names(parts)[1]
+      expect_identical(part_by(result, part), parts[[1]], info = kind)
       begun <- substr(part, 1, nchar(part) - 1)
       expect_error(part_by(result, begun), paste0("has no part \"", begun, "\""), info = kind)
       if (kind != "welungad_exact" && kind != "welungad_summary" && kind != "welungad_many_summary") expect_error(result[["somebody"]], "has no part", info = kind)
