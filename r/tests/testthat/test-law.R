@@ -157,6 +157,10 @@ vector_forms <- list(
   }
 )
 
+# The order of columns beside rows in an order: another one, if the rows have names. Rows that are numbered 1, 2 and so on have none, so
+# columns in another order are an error.
+order_across <- function(labels, order) if (identical(labels[order], as.character(seq_along(labels)))) order else rev(order)
+
 square_forms <- list(
   plain = function(text, double, labels, order, name) double,
   text = function(text, double, labels, order, name) text,
@@ -181,10 +185,12 @@ square_forms <- list(
     frame
   },
   numbered = function(text, double, labels, order, name) {
-    numbered(frame_of(lapply(rev(order), function(j) double[order, j]), labels[rev(order)]), labels[order])
+    across <- order_across(labels, order)
+    numbered(frame_of(lapply(across, function(j) double[order, j]), labels[across]), labels[order])
   },
   sheet = function(text, double, labels, order, name) {
-    frame <- frame_of(lapply(rev(order), function(j) text[order, j]), labels[rev(order)])
+    across <- order_across(labels, order)
+    frame <- frame_of(lapply(across, function(j) text[order, j]), labels[across])
     row.names(frame) <- labels[order]
     sheet_of(frame)
   },
