@@ -5,8 +5,8 @@
 Writes a decision as one page of HTML for readers.
 }
 \usage{
-graph_report(x, file, p = NULL, alpha = 0.025, title = NULL, protocol = NULL, data_cut = NULL,
-  author = NULL)
+graph_report(x, file, p = NULL, alpha = 0.025, title = NULL, protocol = NULL,
+  data_cut = NULL, author = NULL)
 }
 \arguments{
   \item{x}{a result of \code{\link{graph_test}} or \code{\link{graph_stages}}; or a graph, which is then tested with \code{p} at \code{alpha}.}
