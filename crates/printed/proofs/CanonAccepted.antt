@@ -1,6 +1,7 @@
 -- What `canon` prints is answered as the case is.
 use Rattle.std.specs.Prelude.{codes}
 use Rattle.std.proofs.Common.{◌≡◌, refl, ap, subst, ◌∙◌, ℕ, ◌≤◌, List, length, Option, Some, inl, inr, arith}
+use Rattle.answers.proofs.Decided.{stage_decided}
 use Rattle.answers.specs.declared.answer.Answer.{Answer}
 use Rattle.answers.specs.declared.refusal.Refusal.{Refusal}
 use Rattle.answers.specs.declared.status.Status.TheVariants.{Done}
@@ -11,7 +12,6 @@ use Rattle.command_words.specs.declared.command.CaseTask.{CaseTask}
 use Rattle.command_words.specs.declared.command.CaseTask.TheVariants.{Canon}
 use Rattle.command_words.specs.declared.format.Format.{Format}
 use Rattle.command_words.specs.Words.{asked_in}
-use Rattle.command_words.proofs.Readings.{stage_decided}
 use Rattle.graph_cli.specs.Accepted.{case_in, accepted, suitable}
 use Rattle.graph_cli.specs.Check.{check_stage}
 use Rattle.graph_cli.specs.Commands.{needs_of, check_needs, case_call, check_call, call_of, on_case as answers_on_case}
@@ -19,11 +19,11 @@ use Rattle.graph_cli.specs.declared.kind.InputKind.TheVariants.{Any}
 use Rattle.graph_cli.specs.declared.needs.Needs.{Needs}
 use Rattle.graph_cli.specs.Outcome.{AskFor, outcome}
 use Rattle.graph_cli.specs.Troubles.{line_of}
-use Rattle.graph_cli.proofs.AcceptedCases.{accepted_decided}
+use Rattle.graph_cli.proofs.AcceptedCases.{case_decided, accepted_decided}
 use Rattle.graph_cli.proofs.ClosedReports.{not_done}
 use Rattle.printed.specs.Canon.{read_again}
 use Rattle.printed.specs.Accepted.{IsAnsweredAlike, CanonIsAnsweredAsTheCase}
-use Rattle.printed.proofs.CanonReadBack.{one_content, canon_reads_back}
+use Rattle.printed.proofs.CanonReadBack.{canon_reads_back}
 
 -- ---- bytes of a case, and the stages after them
 
@@ -44,7 +44,7 @@ module _ (format : Encoding) (bytes : List ℕ) (c : Content) (I : IsInput forma
     accepted_out : (d : Content) → (accepted format needs (Some bytes)).Gives d → (suitable needs c).Gives d
     accepted_out d g =
         let found = subst (λ xs. (case_in format xs).Gives g.2.0) g.1.0 g.2.1 in
-        subst (λ x. (suitable needs x).Gives d) (one_content format bytes g.2.0 c found I.says) g.2.2
+        subst (λ x. (suitable needs x).Gives d) ((case_decided format bytes).one g.2.0 c found I.says) g.2.2
 
     accepted_in : (d : Content) → (suitable needs c).Gives d → (accepted format needs (Some bytes)).Gives d
     accepted_in d s = (bytes, (refl, I.short), (c, I.says, s))
@@ -54,7 +54,7 @@ module _ (format : Encoding) (bytes : List ℕ) (c : Content) (I : IsInput forma
     refused_out r (inr (xs, w, inl q)) = absurd ((accepted_decided format whatever bytes).not_both c r is_accepted (inr (xs, w, inl q)))
     refused_out r (inr (xs, w, inr (d, g, t))) =
         let found = subst (λ ys. (case_in format ys).Gives d) w.0 g in
-        subst (λ (x : Content). (told_as (line_of x.names) (suitable needs x)).Refuses r) (one_content format bytes d c found I.says) t
+        subst (λ (x : Content). (told_as (line_of x.names) (suitable needs x)).Refuses r) ((case_decided format bytes).one d c found I.says) t
 
     refused_in : (r : Refusal) → (told_as (line_of c.names) (suitable needs c)).Refuses r → (accepted format needs (Some bytes)).Refuses r
     refused_in r t = inr (bytes, (refl, I.short), inr (c, I.says, t))
@@ -140,7 +140,7 @@ canon_took words format to case proof a c asks (inl h) z says =
     let command_is : h.0 ≡ on_case format (Canon to) = (stage_decided (asked_in words)).one h.0 (on_case format (Canon to)) h.1 asks in
     let gives = subst (λ command. (call_of command (Some case) proof).Gives a) command_is h.2 in
     let found : (case_in format case).Gives gives.1.2.0 = subst (λ xs. (case_in format xs).Gives gives.1.2.0) gives.1.1.0 gives.1.2.1 in
-    let same : gives.1.2.2.0 ≡ c = gives.1.2.2.1.1 ∙ one_content format case gives.1.2.0 c found says in
+    let same : gives.1.2.2.0 ≡ c = gives.1.2.2.1.1 ∙ (case_decided format case).one gives.1.2.0 c found says in
     record {
       short = gives.1.1.1;
       says = says;
@@ -151,6 +151,6 @@ pub canon_accepted : CanonIsAnsweredAsTheCase
 canon_accepted words format to case proof a c asks h z short says =
     let I = canon_took words format to case proof a c asks h z says in
     let r = canon_reads_back words format to case proof a asks h z in
-    let same : content_of r.draft ≡ c = one_content format case (content_of r.draft) c (r.draft, r.says, (r.faultless, refl)) says in
+    let same : content_of r.draft ≡ c = (case_decided format case).one (content_of r.draft) c (r.draft, r.says, (r.faultless, refl)) says in
     let reads = subst (λ x. (case_in (read_again to x) a.text).Gives x) same r.reports.reads in
     alike format (read_again to c) case a.text c I (record { short = short; says = reads; few = I.few })

@@ -1,5 +1,6 @@
 -- What `evidence` prints is confirmed by `check`.
 use Rattle.std.proofs.Common.{◌≡◌, refl, sym, ap, subst, ◌∙◌, ℕ, ◌≤◌, List, length, Option, Some, inl, inr}
+use Rattle.answers.proofs.Decided.{stage_decided}
 use Rattle.answers.specs.declared.answer.Answer.{Answer}
 use Rattle.answers.specs.declared.status.Status.TheVariants.{Done}
 use Rattle.answers.specs.Lines.{done}
@@ -8,7 +9,6 @@ use Rattle.case_model.specs.Content.{Content, content_of}
 use Rattle.command_words.specs.Asked.{Encoding, on_case, check}
 use Rattle.command_words.specs.declared.command.CaseTask.TheVariants.{Evidence as EvidenceTask}
 use Rattle.command_words.specs.Words.{asked_in}
-use Rattle.command_words.proofs.Readings.{stage_decided}
 use Rattle.evidence_check.specs.declared.verdict.Verdict.TheVariants.{Yes}
 use Rattle.evidence_check.specs.EvidenceView.{version_of, steps_of, keeps_of}
 use Rattle.report.specs.CheckReport.{check_report}
@@ -18,11 +18,11 @@ use Rattle.graph_cli.specs.Check.{said_of, check_stage}
 use Rattle.graph_cli.specs.Commands.{needs_of, check_needs, case_call, check_call, call_of}
 use Rattle.graph_cli.specs.Laws.{PrintsEvidence, stepped, retained}
 use Rattle.graph_cli.specs.Outcome.{AskFor, outcome}
+use Rattle.graph_cli.proofs.AcceptedCases.{case_decided}
 use Rattle.graph_cli.proofs.ClosedReports.{not_done}
 use Rattle.graph_cli.proofs.EvidenceReports.{evidence_closed_test}
 use Rattle.graph_cli.proofs.OneAnswer.{has_one_answer}
 use Rattle.printed.specs.Confirmed.{confirmation, EvidenceIsConfirmedByCheck}
-use Rattle.printed.proofs.CanonReadBack.{one_content}
 
 -- `check` takes the case that `evidence` took
 taken : (words : List (List ℕ)) (format : Encoding) (priority : Priority) (case : List ℕ) (proof : Option (List ℕ)) (a : Answer) (c : Content)
@@ -35,7 +35,7 @@ taken words format priority case proof a c asks (inl h) z says =
     let gives = subst (λ command. (call_of command (Some case) proof).Gives a) command_is h.2 in
     let bytes_are = gives.1.1.0 in
     let found : (case_in format case).Gives gives.1.2.0 = subst (λ xs. (case_in format xs).Gives gives.1.2.0) bytes_are gives.1.2.1 in
-    let same : gives.0 ≡ c = gives.1.2.2.2.1 ∙ (gives.1.2.2.1.1 ∙ one_content format case gives.1.2.0 c found says) in
+    let same : gives.0 ≡ c = gives.1.2.2.2.1 ∙ (gives.1.2.2.1.1 ∙ (case_decided format case).one gives.1.2.0 c found says) in
     subst (λ d. (accepted format check_needs (Some case)).Gives d) same gives.1
 
 -- it answers yes, and lists and keeps what the evidence does
@@ -47,7 +47,7 @@ confirmed words format file case text c asks takes small p =
     let said = said_of p.evidence in
     let is : confirmation c p.evidence ≡ done (check_report c (version_of p.evidence) (stepped (steps_of p.evidence)) (retained (keeps_of p.evidence))) =
     ap (λ n. done (check_report c n (stepped (steps_of p.evidence)) (retained (keeps_of p.evidence)))) (sym p.version) in
-    inl (check format file, asks, (c, takes, (text, (refl, small), (said, (p.evidence, p.fits, p.says, refl), (Yes, p.holds, is)))))
+    inl (check format file, asks, (c, takes, (text, (refl, small), (said, p.says, (Yes, p.holds, is)))))
 
 pub evidence_confirmed : EvidenceIsConfirmedByCheck
 evidence_confirmed words others format priority file case proof a asks h z small checks =

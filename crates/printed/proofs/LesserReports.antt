@@ -15,9 +15,9 @@ use Rattle.sequential.specs.declared.priority.Priority.{Priority}
 use Rattle.graph_cli.specs.Accepted.{case_in}
 use Rattle.graph_cli.specs.Laws.{ReportsClosedTest}
 use Rattle.graph_cli.specs.Outcome.{AskFor, outcome}
+use Rattle.graph_cli.proofs.AcceptedCases.{case_decided}
 use Rattle.graph_cli.proofs.ClosedReports.{reports_closed_test}
 use Rattle.printed.specs.Lesser.{LesserPValuesRejectNoLess}
-use Rattle.printed.proofs.CanonReadBack.{one_content}
 
 rejections_stay : (c : Content) (ps lesser : List Ratio) (j : ℕ) → ((k : ℕ) → number_at lesser k ≤ε number_at ps k) → IsRejectedIn (with_p c ps) j
     → IsRejectedIn (with_p c lesser) j
@@ -30,7 +30,7 @@ report_on : (words : List (List ℕ)) (format : Encoding) (priority : Priority) 
     → ReportsClosedTest priority c a.text
 report_on words format priority case proof a c asks h z says =
     let r = reports_closed_test words format priority case proof a asks h z in
-    subst (λ x. ReportsClosedTest priority x a.text) (one_content format case (content_of r.draft) c (r.draft, r.says, (r.faultless, refl)) says) r.reports
+    subst (λ x. ReportsClosedTest priority x a.text) ((case_decided format case).one (content_of r.draft) c (r.draft, r.says, (r.faultless, refl)) says) r.reports
 
 pub reject_no_less : LesserPValuesRejectNoLess
 reject_no_less words others format other_format priority other_priority case other proof other_proof a b c ps lesser asks h z ask k y says say below =
