@@ -541,7 +541,7 @@ class Wanted:
             words.append("Several graphs are combined: a weight in a table is the sum over the graphs of share times weight.")
         if self.has_epsilon:
             words.append("A weight with an infinitely small part, ε, is given without it.")
-        words.append("Weights, p-values and bounds are those that the proved calls print; levels, decimals and verdicts on intersections are computed "
+        words.append(("Weights and p-values" if self.case.staging else "Weights, p-values and bounds") + " are those that the proved calls print; levels, decimals and verdicts on intersections are computed "
                      "from them for this page.")
         return " ".join(words)
 
@@ -791,7 +791,7 @@ class Wanted:
         digest = hashlib.sha256(self.decision.canonical.encode()).hexdigest()
         rows = [["", self.row_head(k), name] for k, name in enumerate(self.names)]
         table = [("table", "names", "The names of the hypotheses in the case", [["", "Hypothesis", "Name in the case"], *rows])]
-        return [("lines", self.decision.canonical), ("p", f"Its SHA-256 digest is {digest}."), *(table if self.labels != self.names else [])]
+        return [("lines", self.decision.canonical), ("p", f"Its SHA-256 digest is {digest}, to be compared with what sha256sum case.txt prints for your own case."), *(table if self.labels != self.names else [])]
 
     def program(self):
         """What is said of the program, which the case does not imply. Its digest has to be that of what it was built from."""
