@@ -10,7 +10,8 @@ is on the page, it computes anew what the page has to say, and compares
 - the headline, the digests, the tables of the decision, of the graph, of looks, of intersections and of bounds, and each picture;
 - what the program printed, and the evidence that this report leads to;
 - the case as it was given, which has to denote the case in its one spelling;
-- each sentence of the page with those that pages have, the commands, and the digests of the scripts.
+- each sentence of the page with those that pages have, the commands, and the digests of the scripts;
+- the form of the file: its first and last bytes, its style, and each element and attribute, so that nothing is hidden or added.
 
 By definition (closed_test.py) for at most 12 hypotheses. Above that, weights and the order are checked by make_evidence.py, and
 adjusted p-values by the least ratios of p-value and weight, one after another.
@@ -20,13 +21,14 @@ a page, the status is 2.
 """
 import argparse
 import hashlib
+import html
 import os
 import re
 import shlex
 import sys
+import unicodedata
 from collections import Counter
 from fractions import Fraction
-from html.parser import HTMLParser
 
 HERE = os.path.dirname(os.path.abspath(__file__))
 sys.path.insert(0, HERE)  # also where Python is told to leave it out
@@ -41,18 +43,110 @@ MOST_CLOSED, MOST_SETS, MOST_BOUNDS, MOST_STATES, MOST_PRINTED, MOST_EDGES, MOST
 SCRIPTS = ("check_page", "check_evidence", "make_evidence", "closed_test", "staged_case")
 RELEASE = "0.2.0"
 POWERS = ["", "ε", "ε²", "ε³", "ε⁴"]
+FOOTER = ("This page does not show that the p-values are valid, that the graph was fixed before the data were seen, or that the case is the one of "
+          "the protocol.")
+UNSTATED = "Which program answered was not stated."
+WAY_ROUND = ("Or let a script decide, with numbers of any size. If the program then says yes to its evidence, the closed test rejects what is "
+             "listed, and nothing else. If the numbers of the evidence are too wide for the program too, the last line alone checks it.")
+REFUSED_UNCHECKED = "the title, the cause, the cure, the marked line, the name of the file, the program and the lines to fill in"
+UNCHECKED = (
+    "the title, the labels, the name of the file, the priority in the commands and the lines to fill in",
+    "of the text that was given, what changes nothing of the case",
+    "of the pictures, the drawing: positions, sizes, colours, curves and arrows; checked are their titles, descriptions and texts",
+    "which proved calls made the evidence and the edges of the pictures",
+    "the scripts themselves: their digests on the page are compared with the files beside this one",
+)
 
 
 class NotAPage(Exception):
     """Why a file is not a page of a decision."""
 
 
-# ---- the elements of a page
+# ---- the form of a page: its bytes are those of a frame, and between them only elements and attributes that pages have
+
+FRAME = re.compile("""<!DOCTYPE html>
+<html lang="en">
+<head>
+<meta charset="utf-8">
+<meta name="viewport" content="width=device-width, initial-scale=1">
+<title>([^<]*)</title>
+<style>([^<]*)</style>
+</head>
+<body>
+<main>
+(.*)
+</main>
+<footer>
+(.*)
+</footer>
+</body>
+</html>
+""", re.DOTALL)
+STYLE_SHA256 = "c1b272830361399f7c774b38169979f3f53b1197ba2f21dacc8babf522ec6123"  # without the texts of the sheets
+SHEETS = re.compile(r'(@(?:top|bottom)-left \{ content: )"((?:[A-Za-z0-9 .,;:()/_-]|\\[0-9a-f]+ )*)"')
+TOKEN = re.compile(r'<([a-z0-9]+)((?: [A-Za-z-]+="[^"<>&]*")*)(/?)>|</([a-z0-9]+)>|((?:[^<>&]|&(?:amp|lt|gt|quot|#x27);)+)')
+NAME, X, COLOUR, WORDS = "[a-z0-9-]+", r"-?\d+(?:\.\d)?", "#[0-9a-f]{3,6}", "(?:(?:bdi|code|span|strong) )*"
+FONT = "DejaVu Sans, Verdana, Helvetica, sans-serif"
+# The attributes of each element, and the elements in it, as patterns; and whether it has a text of its own.
+FORMS = {
+    "main": ("", "h1 p dl (?:nav )?(?:h2 (?:p |dl |div |ol |pre |h3 |details )+)+", False),
+    "footer": ("", "p ", False),
+    "h1": ("", "", True),
+    "h2": (f'(?: id="{NAME}")?', "", True),
+    "h3": ("", "", True),
+    "p": ('(?: class="answer(?: refused)?")?', WORDS, True),
+    "dl": ('(?: class="facts")?', "(?:dt dd )+", False),
+    "dt": ("", "", True),
+    "dd": ("", "(?:(?:code|span) )*", True),
+    "nav": (' aria-label="Contents"', "ol ", False),
+    "ol": ('(?: class="pictures(?: large)?")?', "(?:li )+", False),
+    "li": ("", "a |figure |p dl ", False),
+    "a": (f' href="#{NAME}"', "", True),
+    "div": (f' class="wide" role="region" aria-labelledby="{NAME}" tabindex="0"', "table ", False),
+    "table": ("", "caption thead tbody ", False),
+    "caption": (f' id="{NAME}"', "span ", False),
+    "thead": ("", "tr ", False),
+    "tbody": ("", "(?:tr )*", False),
+    "tr": ('(?: class="rejected")?', "(?:th )+(?:td )*", False),
+    "th": (' scope="(?:col|row)"', WORDS, True),
+    "td": ("", WORDS + "(?:pre )?", True),
+    "span": ('(?: class="(?:blank|decimal|whole)")?', "", True),
+    "strong": ("", "(?:bdi )*", True),
+    "bdi": ("", "", True),
+    "code": ('(?: id="(?:case|evidence)-digest")?', "", True),
+    "pre": ('(?: class="long")?', "(?:mark )?", True),
+    "mark": ("", "", True),
+    "details": ('(?: class="between")?', "summary (?:ol|pre) ", False),
+    "summary": ("", "", True),
+    "figure": ("", "figcaption svg ", False),
+    "figcaption": ("", "", True),
+    "svg": (f' xmlns="http://www.w3.org/2000/svg" viewBox="{X} {X} {X} {X}" width="{X}" height="{X}" font-family="{FONT}" role="img" '
+            f'aria-labelledby="{NAME} {NAME}"', "title desc defs rect (?:(?:circle|path|rect|text) )*", False),
+    "title": (f' id="{NAME}"', "", True),
+    "desc": (f' id="{NAME}"', "", True),
+    "defs": ("", "(?:marker )*", False),
+    "marker": (f' id="{NAME}" viewBox="0 0 10 10" refX="8" refY="5" markerWidth="7" markerHeight="7" orient="auto"', "path ", False),
+    "path": (f' d="M0,1 L9,5 L0,9 z" fill="{COLOUR}"| d="M{X},{X} Q{X},{X} {X},{X}" fill="none" stroke="{COLOUR}" stroke-width="1.6" '
+             rf'marker-end="url\(#{NAME}\)"', "", False),
+    "rect": (f' x="{X}" y="{X}" width="(?:100%|{X})" height="(?:100%|19)"(?: rx="4")? fill="#fff"', "", False),
+    "circle": (f' cx="{X}" cy="{X}" r="40" fill="(?:#fff|#cfe3cf)" stroke="#111" stroke-width="1.6"| cx="{X}" cy="{X}" r="11" fill="#2e6b34"',
+               "", False),
+    "text": (f' x="{X}" y="{X}" font-size="{X}" fill="{COLOUR}" text-anchor="(?:middle|start)" font-weight="(?:normal|bold)"', "", True),
+}
+EMPTY = ("path", "rect", "circle")
+TURNS = {"R", "AL", "AN", "LRE", "RLE", "LRO", "RLO", "PDF", "LRI", "RLI", "FSI", "PDI"}  # directions of letters and signs that turn texts
+APART = ("bdi", "h1", "dd", "pre", "mark", "summary", "figcaption", "title", "desc", "text")  # whose texts turn no other text
+
+
+def plain(text):
+    """A text without the signs of its direction, with one blank for each run of the blanks of HTML."""
+    return re.sub("[ \t\n\f\r]+", " ", text.replace("\u2068", "").replace("\u2069", "")).strip(" ")
 
 
 class Element:
-    def __init__(self, name, attributes):
-        self.name, self.attributes, self.content = name, dict(attributes), []
+    def __init__(self, name, attributes=""):
+        self.name, self.given, self.content = name, attributes, []
+        self.attributes = dict(re.findall(r' ([A-Za-z-]+)="([^"]*)"', attributes))
 
     def all(self, *names):
         """The elements with these names in it, in their order."""
@@ -66,33 +160,88 @@ class Element:
         return "".join(part if isinstance(part, str) else part.raw() for part in self.content)
 
     def text(self):
-        """The text without the signs of its direction, with one blank for each run of blanks."""
-        return " ".join(self.raw().replace("\u2068", "").replace("\u2069", "").split())
+        return plain(self.raw())
 
 
-class Reader(HTMLParser):
-    def __init__(self, page):
-        super().__init__(convert_charrefs=True)
-        self.open = [Element("", {})]
-        self.feed(page)
-        self.close()
-        self.page = self.open[0]
+def element_of(name, text):
+    """The element with this name that has this content. Each token has to be one that pages have, and each element in its form."""
+    opened, at = [Element(name)], 0
+    while at < len(text):
+        token = TOKEN.match(text, at)
+        if not token:
+            raise NotAPage(f"pages do not have this: {text[at:at + 60]!r}")
+        begun, attributes, ends, ended, said = token.groups()
+        if begun:
+            opened[-1].content.append(Element(begun, attributes))
+            opened += [] if ends else opened[-1].content[-1:]
+            if bool(ends) != (begun in EMPTY):
+                raise NotAPage(f"the element {begun} is not written as pages write it")
+        elif said:
+            opened[-1].content.append(html.unescape(said))
+        elif len(opened) == 1 or opened[-1].name != ended:
+            raise NotAPage(f"the element {ended} is not closed where it was opened")
+        else:
+            opened.pop()
+        at = token.end()
+    if len(opened) > 1:
+        raise NotAPage(f"the element {opened[-1].name} is not closed")
+    hold_form(opened[0])
+    return opened[0]
 
-    def handle_starttag(self, name, attributes):
-        self.open[-1].content.append(Element(name, attributes))
-        if name not in ("meta", "br"):
-            self.open.append(self.open[-1].content[-1])
 
-    def handle_startendtag(self, name, attributes):
-        self.open[-1].content.append(Element(name, attributes))
+def hold_form(element):
+    """Refuses an element that has attributes, elements or a text that pages do not have there."""
+    if element.name not in FORMS:
+        raise NotAPage(f"pages have no element {element.name}")
+    attributes, inner, has_text = FORMS[element.name]
+    parts = [part for part in element.content if isinstance(part, Element)]
+    if not re.fullmatch(attributes, element.given):
+        raise NotAPage(f"pages have no element {element.name} with the attributes{element.given or ' that it has: none'}")
+    for part in parts:
+        hold_form(part)
+    if not re.fullmatch(inner, "".join(f"{part.name} " for part in parts)):
+        raise NotAPage(f"an element {element.name} does not have the elements that pages have in it, but {' '.join(it.name for it in parts) or 'none'}")
+    texts = "".join(part for part in element.content if isinstance(part, str))
+    if not has_text and plain(texts):
+        raise NotAPage(f"an element {element.name} has a text of its own: {plain(texts)[:60]!r}")
+    if element.name not in APART and any(unicodedata.bidirectional(it) in TURNS for it in texts):
+        raise NotAPage(f"an element {element.name} has a sign that turns the text beside it")
+    if element.name == "span" and not re.fullmatch(
+            {"blank": "", "decimal": "[=≈] [0-9.e+-]+", "whole": "p-value"}.get(element.attributes.get("class"), "(?s).*"), texts):
+        raise NotAPage(f"a span has a text that pages do not have in it: {texts[:60]!r}")
 
-    def handle_endtag(self, name):
-        if self.open[-1].name != name or len(self.open) == 1:
-            raise NotAPage(f"the element {name} is not closed where it was opened")
-        self.open.pop()
 
-    def handle_data(self, text):
-        self.open[-1].content.append(text)
+def hold_names(main):
+    """Refuses names that are there twice, and elements that name another one than their own."""
+    names = [it.attributes["id"] for it in main.all(*FORMS) if "id" in it.attributes]
+    if len({*names}) != len(names):
+        raise NotAPage(f"it has the name {Counter(names).most_common(1)[0][0]} twice")
+    for div in main.all("div"):
+        if next(div.all("caption")).attributes["id"] != div.attributes["aria-labelledby"]:
+            raise NotAPage("a table does not have its own caption")
+    for svg in main.all("svg"):
+        own = [next(svg.all(name)).attributes["id"] for name in ("title", "desc")]
+        heads = {f"url(#{it.attributes['id']})" for it in svg.all("marker")}
+        if svg.attributes["aria-labelledby"].split(" ") != own or not {it.attributes.get("marker-end") for it in svg.all("path")} <= {*heads, None}:
+            raise NotAPage("a picture does not have its own title, description and arrowheads")
+
+
+def sheet_text(text):
+    """A text as the style has it in quotes."""
+    return re.sub(r"[^A-Za-z0-9 .,;:()/_-]", lambda found: f"\\{ord(found[0]):x} ", text)
+
+
+def hold_style(style, title):
+    """The text at the foot of each sheet on paper. Refuses a style that is not the one of pages, or has another title."""
+    texts = [it[1] for it in SHEETS.findall(style)]
+    if len(texts) != 2 or hashlib.sha256(SHEETS.sub(r'\1""', style).encode()).hexdigest() != STYLE_SHA256:
+        raise NotAPage("its style is not the one that pages have")
+    if texts[0] != sheet_text(title if len(title) <= 120 else title[:119] + "…"):
+        raise NotAPage("its sheets on paper do not have its title")
+    return texts[1]
+
+
+# ---- the parts of a page
 
 
 def figure_of(element):
@@ -126,33 +275,39 @@ class Page:
     """The parts of a page: its title, headline and facts, and the sections by their names."""
 
     def __init__(self, text):
-        page = Reader(text).page
-        mains = [*page.all("main")]
-        if len(mains) != 1:
-            raise NotAPage("it has no main part")
-        self.style = "".join(it.raw() for it in page.all("style"))
-        self.title, self.facts, self.answer, self.contents, self.sections, section = None, {}, None, [], {}, None
-        self.footer, self.is_refused = [it.text() for it in page.all("footer")], False
-        for element in mains[0].content:
-            if isinstance(element, Element) and element.name == "h2":
+        framed = FRAME.fullmatch(text)
+        if not framed:
+            raise NotAPage("it does not begin and end as pages do")
+        main = element_of("main", framed[3])
+        hold_names(main)
+        self.footer = element_of("footer", framed[4]).text()
+        elements = [it for it in main.content if isinstance(it, Element)]
+        self.title, headline, facts = elements[0].raw(), elements[1], elements[2]
+        if html.unescape(framed[1]) != self.title:
+            raise NotAPage("its title is not the one above the headline")
+        self.sheets = hold_style(framed[2], self.title)
+        self.answer, self.is_refused = headline.text(), headline.attributes.get("class") == "answer refused"
+        self.strong = [it.text() for it in headline.all("strong")]
+        answers = [it for it in main.all("p") if "class" in it.attributes]
+        if answers != [headline] or [*headline.all("code")]:
+            raise NotAPage("its headline is not where pages have it")
+        if facts.attributes.get("class") != "facts" or [it.raw() for it in facts.all("dt")] != ["Protocol", "Data cut", "Author"]:
+            raise NotAPage("it does not have the lines of protocol, data cut and author")
+        if not self.is_refused and [*main.all("mark")]:
+            raise NotAPage("a line of it is marked")
+        self.contents = [(it.attributes["href"], it.text()) for it in main.all("a")]
+        self.sections = {}
+        self.read_sections(elements[4 if elements[3].name == "nav" else 3:])
+
+    def read_sections(self, elements):
+        for element in elements:
+            if element.name == "h2":
                 name = element.attributes.get("id", element.text())
                 if name in self.sections:
                     raise NotAPage(f"it has two sections {name}")
                 section = self.sections[name] = [("h2", element.text())]
-            elif section is not None:
+            else:
                 section += parts_of(element)
-            elif isinstance(element, Element) and element.name == "h1":
-                self.title = element.text()
-            elif isinstance(element, Element) and element.name == "p" and element.attributes.get("class", "").startswith("answer"):
-                self.answer, self.is_refused = element.text(), "refused" in element.attributes["class"]
-                self.strong = [it.text() for it in element.all("strong")]
-            elif isinstance(element, Element) and element.name == "dl":
-                texts = [it.text() for it in element.all("dt", "dd")]
-                self.facts = dict(zip(texts[::2], texts[1::2]))
-            elif isinstance(element, Element) and element.name == "nav":
-                self.contents = [(it.attributes.get("href"), it.text()) for it in element.all("a")]
-            elif not isinstance(element, str) or element.strip():
-                raise NotAPage("it has something before its first section that pages do not have")
 
     def part(self, section, kind, n=0):
         """The n-th part of a kind in a section."""
@@ -386,7 +541,7 @@ class Wanted:
             words.append("Several graphs are combined: a weight in a table is the sum over the graphs of share times weight.")
         if self.has_epsilon:
             words.append("A weight with an infinitely small part, ε, is given without it.")
-        words.append("Weights, p-values and bounds are those that the proved calls print; levels, decimals and verdicts on intersections are computed "
+        words.append(("Weights and p-values" if self.case.staging else "Weights, p-values and bounds") + " are those that the proved calls print; levels, decimals and verdicts on intersections are computed "
                      "from them for this page.")
         return " ".join(words)
 
@@ -535,7 +690,7 @@ class Wanted:
             texts += [f"component {c}: share {part.share}" for c, part in enumerate(parts, 1)]
         texts += ["ε: a positive number below every positive fraction"] if any("ε" in text for found in edges for text in found.values()) else []
         texts.append("filled: rejected, with the number of the step")
-        return ("picture", title, title, " ".join(sentences) or "No hypothesis is left.", sorted(" ".join(text.split()) for text in texts))
+        return ("picture", title, title, " ".join(sentences) or "No hypothesis is left.", sorted(map(plain, texts)))
 
     # ---- intersections, bounds
 
@@ -636,14 +791,14 @@ class Wanted:
         digest = hashlib.sha256(self.decision.canonical.encode()).hexdigest()
         rows = [["", self.row_head(k), name] for k, name in enumerate(self.names)]
         table = [("table", "names", "The names of the hypotheses in the case", [["", "Hypothesis", "Name in the case"], *rows])]
-        return [("lines", self.decision.canonical), ("p", f"Its SHA-256 digest is {digest}."), *(table if self.labels != self.names else [])]
+        return [("lines", self.decision.canonical), ("p", f"Its SHA-256 digest is {digest}, to be compared with what sha256sum case.txt prints for your own case."), *(table if self.labels != self.names else [])]
 
     def program(self):
         """What is said of the program, which the case does not imply. Its digest has to be that of what it was built from."""
         found = [it for it in self.page.sections.get("program", []) if it[0] in ("list", "p")][:1]
         self.skipped.append("the program and what it was built from")
         if not found or found[0][0] != "list":
-            return [("p", "Which program answered was not stated.")]
+            return [("p", UNSTATED)]
         said = found[0][1][2 if found[0][1][:1] == ["Release of the C library"] else 0 :]
         for kind, name in (("program", "welungad"), ("C library", "libwelungad.so")):
             if said[:1] == [f"SHA-256 digest of the {kind}"] and said[2:3] == ["What it was built from"] and len(said) == 4:
@@ -743,10 +898,9 @@ def differences(page, wanted):
                 yield f"the section {name}: {difference(one, other)}"
                 break
     digest = hashlib.sha256(wanted.decision.canonical.encode()).hexdigest()
-    if f'"case, SHA-256 {digest}"' not in re.sub(r"\\2c ", ",", page.style):
+    if page.sheets != f"case, SHA-256 {digest}":
         yield "the sheets: on paper they do not have the digest of the case"
-    if page.footer != ["This page does not show that the p-values are valid, that the graph was fixed before the data were seen, or that the case is "
-                       "the one of the protocol."]:
+    if page.footer != FOOTER:
         yield "the end: it does not say what the page does not show"
 
 
@@ -763,12 +917,42 @@ def words_of(page):
                                         else (lambda name: f"python3 tools/{name}.py")}
 
 
+def refused_differences(page, line):
+    """Yields each difference of a page about a refusal from what such pages have. `line` is the match of the refusal."""
+    if page.answer != "The program decides nothing on this case, because it refuses it." or page.strong or page.contents:
+        yield f"the headline: it has {page.answer!r}"
+    if page.footer != FOOTER:
+        yield "the end: it does not say what the page does not show"
+    kinds = {name: [it[0] for it in parts] for name, parts in page.sections.items()}
+    why = ["h2", "list", *(["p", "lines"] if (line[3], line[2]) == ("test", "5") else [])]
+    program = ["h2", "list" if "list" in kinds.get("The program", []) else "p", "h3", "lines"]
+    if [*kinds.items()] != [("Why, and what to do", why), ("The case as it was given", ["h2", "lines"]), ("The program", program)]:
+        yield "the sections: they are not those of such a page"
+        return
+    if page.part("Why, and what to do", "list")[1][::2] != ["The line", "Cause", "What to do"]:
+        yield "the section Why, and what to do: it does not have the line, the cause and the cure"
+    if why[2:] and page.part("Why, and what to do", "p")[1] != WAY_ROUND:
+        yield "the section Why, and what to do: it has another sentence"
+    if program[1] == "p" and page.part("The program", "p")[1] != UNSTATED:
+        yield "the section The program: it has another sentence"
+    words = shlex.split(page.part("The program", "lines")[1])
+    if words[:2] != ["welungad", line[3]] or words[-2:-1] != ["<"] or page.part("The program", "h3")[1] != "To repeat it":
+        yield "the section The program: its command is not that of the refusal"
+    given = page.part("The case as it was given", "lines")[1]
+    sheets = [f"text that was given, SHA-256 {hashlib.sha256(it.encode()).hexdigest()}" for it in (given, given + "\n")]
+    if "\ufffd" not in given and page.sheets not in sheets:
+        yield "the sheets: on paper they do not have the digest of the text"
+
+
 def check_refused(page):
     """The status and the answer on a page about a case that is refused: whether these scripts refuse it with the same line."""
     lists = [it[1] for parts in page.sections.values() for it in parts if it[0] == "list"]
     line = re.fullmatch(r"(.*) \(status ([0-9]+) of ([a-z]+)\)", lists[0][1]) if lists else None
     if not line:
         raise NotAPage("it does not name the line of the refusal")
+    found = [*refused_differences(page, line)]
+    if found:
+        return 1, "no:\n" + "".join(f"  {it}\n" for it in found)
     given = page.part("The case as it was given", "lines")[1] + "\n"
     options = shlex.split([it[1] for it in page.sections["The program"] if it[0] == "lines"][-1])
     form = options[options.index("--form") + 1] if "--form" in options else "text"
@@ -782,7 +966,7 @@ def check_refused(page):
         found = stop.args[1].strip()
     if found != line[1]:
         return 1, f"no: the page says that the case is refused by the line {line[1]!r}, and it has {found!r}\n"
-    return 0, f"yes\nrefused {line[1]}\nnot checked: the title, the cause and the cure\nend\n"
+    return 0, f"yes\nrefused {line[1]}\nnot checked: {REFUSED_UNCHECKED}\nend\n"
 
 
 def answer(text, evidence=None):
@@ -809,7 +993,7 @@ def answer(text, evidence=None):
     if found:
         return 1, "no:\n" + "".join(f"  {it}\n" for it in found)
     rejected = " ".join(["rejected", *decision.names_rejected])
-    skipped = "".join(f"not checked: {it}\n" for it in dict.fromkeys(["the title, the labels and the lines to fill in", *wanted.skipped]))
+    skipped = "".join(f"not checked: {it}\n" for it in dict.fromkeys([*UNCHECKED, *wanted.skipped]))
     return 0, f"yes\n{rejected}\n{skipped}end\n"
 
 

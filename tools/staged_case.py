@@ -4,11 +4,15 @@ docs/FORMATS.md describes stages. A case that breaks a rule is refused with the 
 numbers have no limit of size; neither have the counts of stages and of steps.
 """
 import json
+import os
 import re
+import sys
 from argparse import Namespace
 from fractions import Fraction
 
-from check_evidence import Digits, Lines, Members, case_of, list_of, loaded, name_of, number_of, numeral, require
+sys.path.insert(0, os.path.dirname(os.path.abspath(__file__)))  # also where Python is told to leave it out
+
+from check_evidence import Digits, Lines, Members, case_of, list_of, loaded, name_of, number_of, numeral, require  # noqa: E402
 
 
 def parted(given, form):

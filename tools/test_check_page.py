@@ -1,4 +1,5 @@
 """Tests of check_page.py. The pages are those of test_report.py, whose reports are by hand; bench/pages.py makes many with the program."""
+import hashlib
 import os
 import re
 import subprocess
@@ -13,7 +14,7 @@ sys.path.insert(0, TOOLS)
 import check_page  # noqa: E402
 import test_tools  # noqa: E402
 from test_report import ANSWERS, CANON, CASE, answering, document, page_of  # noqa: E402
-from welungad import _page  # noqa: E402
+from welungad import _page, _page_style  # noqa: E402
 
 PROGRAM = [("SHA-256 digest of the program", "ab" * 32), ("What it was built from", "sha256 welungad " + "ab" * 32)]
 EVIDENCE = ANSWERS["evidence", CANON]
@@ -45,6 +46,36 @@ ALTERED = [
     ("case, SHA-256", "SHA-256", "the sheets"),
 ]
 
+# What is altered on the same page so that a reader sees something else, what it becomes, and why it is refused.
+FRAME, STYLE = "does not begin and end as pages do", "style is not the one"
+SHOWN = [
+    ("<main>", "<p>H2 is rejected.</p>\n<main>", FRAME),
+    ("</footer>", "</footer>\n<p>H2 is rejected.</p>", FRAME),
+    ("</html>\n", "</html>\nH2 is rejected.\n", FRAME),
+    ("<body>", '<body hidden="">', FRAME),
+    ("</head>", '<link rel="stylesheet" href="a.css">\n</head>', FRAME),
+    ("</head>", '<meta http-equiv="refresh" content="0">\n</head>', FRAME),
+    ("</style>", "main { display: none; }</style>", STYLE),
+    ("</style>", '.answer::after { content: "H2"; }</style>', STYLE),
+    ('<p class="answer">', '<p class="answer" style="display:none">', "no element p with the attributes"),
+    ('<p class="answer">', '<p class="answer" hidden="">', "no element p with the attributes"),
+    ('<p class="answer">', '<p class="answer" title="H2 is rejected">', "no element p with the attributes"),
+    ('<p class="answer">', '<p class="answer" onclick="a()">', "no element p with the attributes"),
+    ('<p class="answer">', '<p class="answer">H2 is rejected.</p>\n<p class="answer">', "does not have the elements"),
+    ("<td>not rejected</td>", "<td><s>not rejected</s></td>", "no element s"),
+    ("<td>not rejected</td>", "<td><del>not rejected</del></td>", "no element del"),
+    ('<h2 id="method">', '<script>a()</script>\n<h2 id="method">', "no element script"),
+    ('<h2 id="method">', '<iframe src="a"></iframe>\n<h2 id="method">', "no element iframe"),
+    ('<h2 id="method">', '<!-- a remark -->\n<h2 id="method">', "pages do not have this"),
+    ('<h2 id="method">', 'H2 is rejected.\n<h2 id="method">', "a text of its own"),
+    ("<td>not rejected</td>", '<td><a href="https://a.b">not rejected</a></td>', "no element a with the attributes"),
+    ('<caption id="decision">', '<caption id="method">', "the name method twice"),
+    ("p 1/40 13/500", "p 1/40 <mark>13/500</mark>", "is marked"),
+    ("does not reject H2", "does not reject \u202eH2", "turns the text beside it"),
+    ("<dt>Author</dt>", "<dt>Rejected</dt>", "protocol, data cut and author"),
+    ("<h1>The decision on", "<h1>A decision on", "title is not the one"),
+]
+
 
 class Pages(unittest.TestCase):
     def setUp(self):
@@ -52,8 +83,9 @@ class Pages(unittest.TestCase):
 
     def test_yes(self):
         """Whether the answer on a page is yes, with what is rejected and what was not checked, and with the evidence whose digest it has."""
-        wanted = ("yes\nrejected H1\nnot checked: the title, the labels and the lines to fill in\nnot checked: the program and what it was built from\n"
-                  "end\n")
+        unchecked = [*check_page.UNCHECKED, "the program and what it was built from"]
+        self.assertIn("of the pictures, the drawing: positions, sizes, colours, curves and arrows", unchecked[2])
+        wanted = "yes\nrejected H1\n" + "".join(f"not checked: {it}\n" for it in unchecked) + "end\n"
         self.assertEqual(check_page.answer(self.page), (0, wanted))
         self.assertEqual(check_page.answer(self.page, EVIDENCE.encode()), (0, wanted))
         for how in ({"labels": ["high <dose>", "a dose that is low: 5 mg or less"]}, {"labels": ["\u05de\u05d9\u05e0\u05d5\u05df", "\u202eA"]},
@@ -70,6 +102,19 @@ class Pages(unittest.TestCase):
                 status, text = check_page.answer(self.page.replace(old, new, 1))
                 self.assertEqual((status, text[:4]), (1, "no:\n"))
                 self.assertIn(place, text)
+
+    def test_form(self):
+        """Whether a page that shows a reader something else than it says is refused, and names why."""
+        for old, new, why in SHOWN:
+            with self.subTest(old, new=new):
+                self.assertIn(old, self.page)
+                with self.assertRaisesRegex(check_page.NotAPage, why):
+                    check_page.answer(self.page.replace(old, new, 1))
+
+    def test_style(self):
+        """Whether the style that the script asks for is the one of pages."""
+        style = check_page.SHEETS.sub(r'\1""', _page_style.style_of("a title", "a case"))
+        self.assertEqual(hashlib.sha256(style.encode()).hexdigest(), check_page.STYLE_SHA256)
 
     def test_digests(self):
         """Whether one digit of each digest on the page counts."""
@@ -88,10 +133,9 @@ class Pages(unittest.TestCase):
                 self.assertEqual(check_page.answer(self.page[: row.start()] + text + self.page[row.end():])[0], 1, row[0])
 
     def test_what_is_not_said(self):
-        """Whether the answer stays yes if an alteration changes nothing of what is said: a remark, another numeral of the same value, the
-        title, a line to fill in."""
-        for old, new in [("# two", "# three"), ("0.05\nhypotheses", "5e-2\nhypotheses"), ("<h1>The decision on", "<h1>A decision on"),
-                         ('<dt>Author</dt><dd><span class="blank"></span>', "<dt>Author</dt><dd>A &amp; B")]:
+        """Whether the answer stays yes if an alteration changes nothing of what is said: a remark, another numeral of the same value, a
+        line to fill in."""
+        for old, new in [("# two", "# three"), ("0.05\nhypotheses", "5e-2\nhypotheses"), ('<dt>Author</dt><dd><span class="blank"></span>', "<dt>Author</dt><dd>A &amp; B")]:
             self.assertIn(old, self.page)
             self.assertEqual(check_page.answer(self.page.replace(old, new, 1))[0], 0, new)
 
@@ -107,7 +151,7 @@ class Pages(unittest.TestCase):
         """Whether the page of a refused case is compared with the refusal of the scripts."""
         bad = CASE.replace("0.025", "2.5%")
         page = document(bad, answering(canon=(3, "malformed: line 4: number\n")))[1]
-        self.assertEqual(check_page.answer(page), (0, "yes\nrefused malformed: line 4: number\nnot checked: the title, the cause and the cure\nend\n"))
+        self.assertEqual(check_page.answer(page), (0, f"yes\nrefused malformed: line 4: number\nnot checked: {check_page.REFUSED_UNCHECKED}\nend\n"))
         page = document(CASE, answering(canon=(3, "malformed: line 4: number\n")))[1]
         self.assertEqual(check_page.answer(page)[0], 1)
         page = document(CASE, answering(test=(5, "too wide: step 3: component 1 weight of H4 mul\n")))[1]
@@ -120,8 +164,8 @@ class Pages(unittest.TestCase):
             for path, text in zip(paths, (self.page, EVIDENCE, "<html><p>text</p></html>")):
                 with open(path, "w", encoding="utf-8") as file:
                     file.write(text)
-            for words, status, line in [(paths[:2], 0, "yes"), (paths[:1], 0, "yes"), (paths[2:], 2, "not a page of a decision: it has no main part"),
-                                        (paths[1:2], 2, "not a page of a decision: it has no main part")]:
+            for words, status, line in [(paths[:2], 0, "yes"), (paths[:1], 0, "yes"), (paths[2:], 2, "not a page of a decision: it does not begin and end as pages do"),
+                                        (paths[1:2], 2, "not a page of a decision: it does not begin and end as pages do")]:
                 done = subprocess.run([sys.executable, os.path.join(TOOLS, "check_page.py"), *words], capture_output=True, text=True, encoding="utf-8",
                                       env={**os.environ, "PYTHONSAFEPATH": "1"})
                 self.assertEqual((done.returncode, done.stdout.split("\n")[0], done.stderr), (status, line, ""))

@@ -174,7 +174,7 @@ def how_to_read(findings: Findings) -> str:
         words.append("Several graphs are combined: a weight in a table is the sum over the graphs of share times weight.")
     if has_epsilon(findings):
         words.append("A weight with an infinitely small part, ε, is given without it.")
-    words.append("Weights, p-values and bounds are those that the proved calls print; levels, decimals and verdicts on intersections are computed from "
+    words.append(("Weights and p-values" if findings.is_staged else "Weights, p-values and bounds") + " are those that the proved calls print; levels, decimals and verdicts on intersections are computed from "
                  "them for this page.")
     return f"<p>{' '.join(words)}</p>"
 
@@ -587,7 +587,7 @@ def sections_of(findings: Findings, checks: Checks, file: str, words: Sequence[s
         ("evidence", "The evidence, and what the checkers answered", checked(findings, checks)),
         ("given", "The case as it was given", SAME if findings.given == findings.canonical else given_text(findings.given)),
         ("case", "The case in its one spelling",
-         f'{lines_in(escape(findings.canonical))}\n<p>Its SHA-256 digest is <code id="case-digest">{digest(findings.canonical)}</code>.</p>'
+         f'{lines_in(escape(findings.canonical))}\n<p>Its SHA-256 digest is <code id="case-digest">{digest(findings.canonical)}</code>, to be compared with what <code>sha256sum case.txt</code> prints for your own case.</p>'
          + name_table(findings)),
         ("report", "What the program printed", lines_in(escape(findings.report))),
         ("program", "The program, and how to repeat and check the decision",
