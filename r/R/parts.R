@@ -111,3 +111,154 @@ edges_of_one <- function(graph) {
   }
   graph$components[[1]]$edges
 }
+
+# ---- assignments
+
+# The parts of a graph that a user may assign: calls read them, and stop at what does not fit.
+assigned_parts <- c("names", "labels", "components")
+
+# What to write in place of an assignment that no call would read.
+new_weights <- "graph_create(new, graph$transitions) makes a graph with the new weights"
+new_edges <- "graph_create(graph$hypotheses, new) makes a graph with the new edges"
+written_instead <- c(
+  hypotheses = new_weights,
+  weights = new_weights,
+  transitions = new_edges,
+  edges = new_edges,
+  m = new_edges,
+  hyp_names = "graph$labels <- new gives new labels"
+)
+
+# Stops at an assignment to a graph that no call would read.
+refuse_assignment <- function(what, instead) stop("no call would read ", what, " of a graph: ", instead, call. = FALSE)
+
+# Stops unless these parts of a graph may be assigned.
+check_assigned <- function(names) {
+  other <- names[!names %in% assigned_parts]
+  if (length(other) == 0) return(invisible())
+  known <- other[1] %in% names(written_instead)
+  refuse_assignment(if (is.na(other[1])) "this element" else paste("a new part", quoted(other[1])),
+    if (known) written_instead[[other[1]]] else paste0(new_weights, ", and ", new_edges))
+}
+
+# A graph or a result with other parts. The package alone changes results so.
+with_parts <- function(x, parts) structure(replace(unclass(x), names(parts), parts), class = class(x))
+
+# The names of the parts at the places of an assignment.
+part_names_at <- function(x, i) if (is.character(i)) i else names(unclass(x))[i]
+
+`$<-.welungad_graph` <- function(x, name, value) {
+  check_assigned(name)
+  with_parts(x, stats::setNames(list(value), name))
+}
+
+`[[<-.welungad_graph` <- function(x, ..., value) {
+  at <- list(...)
+  if (length(at) != 1 || length(at[[1]]) != 1) check_assigned(NA_character_)
+  name <- part_names_at(x, at[[1]])
+  check_assigned(name)
+  with_parts(x, stats::setNames(list(value), name))
+}
+
+`[<-.welungad_graph` <- function(x, ..., value) {
+  at <- list(...)
+  if (length(at) != 1 || !is.list(value)) check_assigned(NA_character_)
+  names <- part_names_at(x, at[[1]])
+  check_assigned(names)
+  if (length(names) != length(value)) refuse_assignment("such parts", "give one value for each part")
+  with_parts(x, stats::setNames(value, names))
+}
+
+`names<-.welungad_graph` <- function(x, value) refuse_assignment("new names", written_instead[["hyp_names"]])
+
+`dimnames<-.welungad_graph` <- function(x, value) refuse_assignment("new names of rows", written_instead[["hyp_names"]])
+
+`dim<-.welungad_graph` <- function(x, value) refuse_assignment("a new size", "graph_create makes a graph of other hypotheses")
+
+`length<-.welungad_graph` <- `dim<-.welungad_graph`
+
+# A result is what was decided, so no part of it is assigned.
+refuse_change <- function(x) {
+  stop("no part of a ", class(x)[1], " is assigned, since it would no longer be what was decided: decide again, or change a copy of the part, ",
+    "as part <- x$part makes it", call. = FALSE)
+}
+
+`$<-.welungad_test` <- function(x, name, value) refuse_change(x)
+
+`$<-.welungad_closure` <- function(x, name, value) refuse_change(x)
+
+`$<-.welungad_bounds` <- function(x, name, value) refuse_change(x)
+
+`$<-.welungad_stages` <- function(x, name, value) refuse_change(x)
+
+`$<-.welungad_study` <- function(x, name, value) refuse_change(x)
+
+`$<-.welungad_evidence` <- function(x, name, value) refuse_change(x)
+
+`$<-.welungad_check` <- function(x, name, value) refuse_change(x)
+
+`$<-.welungad_update` <- function(x, name, value) refuse_change(x)
+
+`$<-.welungad_summary` <- function(x, name, value) refuse_change(x)
+
+`$<-.welungad_many_summary` <- function(x, name, value) refuse_change(x)
+
+`[[<-.welungad_test` <- function(x, ..., value) refuse_change(x)
+
+`[[<-.welungad_closure` <- function(x, ..., value) refuse_change(x)
+
+`[[<-.welungad_bounds` <- function(x, ..., value) refuse_change(x)
+
+`[[<-.welungad_stages` <- function(x, ..., value) refuse_change(x)
+
+`[[<-.welungad_study` <- function(x, ..., value) refuse_change(x)
+
+`[[<-.welungad_evidence` <- function(x, ..., value) refuse_change(x)
+
+`[[<-.welungad_check` <- function(x, ..., value) refuse_change(x)
+
+`[[<-.welungad_update` <- function(x, ..., value) refuse_change(x)
+
+`[[<-.welungad_summary` <- function(x, ..., value) refuse_change(x)
+
+`[[<-.welungad_many_summary` <- function(x, ..., value) refuse_change(x)
+
+`[<-.welungad_test` <- function(x, ..., value) refuse_change(x)
+
+`[<-.welungad_closure` <- function(x, ..., value) refuse_change(x)
+
+`[<-.welungad_bounds` <- function(x, ..., value) refuse_change(x)
+
+`[<-.welungad_stages` <- function(x, ..., value) refuse_change(x)
+
+`[<-.welungad_study` <- function(x, ..., value) refuse_change(x)
+
+`[<-.welungad_evidence` <- function(x, ..., value) refuse_change(x)
+
+`[<-.welungad_check` <- function(x, ..., value) refuse_change(x)
+
+`[<-.welungad_update` <- function(x, ..., value) refuse_change(x)
+
+`[<-.welungad_summary` <- function(x, ..., value) refuse_change(x)
+
+`[<-.welungad_many_summary` <- function(x, ..., value) refuse_change(x)
+
+`names<-.welungad_test` <- function(x, value) refuse_change(x)
+
+`names<-.welungad_closure` <- function(x, value) refuse_change(x)
+
+`names<-.welungad_bounds` <- function(x, value) refuse_change(x)
+
+`names<-.welungad_stages` <- function(x, value) refuse_change(x)
+
+`names<-.welungad_study` <- function(x, value) refuse_change(x)
+
+`names<-.welungad_evidence` <- function(x, value) refuse_change(x)
+
+`names<-.welungad_check` <- function(x, value) refuse_change(x)
+
+`names<-.welungad_update` <- function(x, value) refuse_change(x)
+
+`names<-.welungad_summary` <- function(x, value) refuse_change(x)
+
+`names<-.welungad_many_summary` <- function(x, value) refuse_change(x)

@@ -90,10 +90,8 @@ as.data.frame.welungad_closure <- function(x, ..., exact = FALSE) {
 # Some of the sets.
 `[.welungad_closure` <- function(x, i, ...) {
   at <- places_of_sets(x, i)
-  x$sets <- x$sets[at]
-  x$weights <- x$weights[at, , drop = FALSE]
-  for (part in c("local", "closed", "bound", "p_local", "p_closed")) x[[part]] <- x[[part]][at]
-  x
+  by_set <- c("sets", "local", "closed", "bound", "p_local", "p_closed")
+  with_parts(x, c(lapply(unclass(x)[by_set], `[`, at), list(weights = x$weights[at, , drop = FALSE])))
 }
 
 # The places of some of the sets of a result, all of which are there.
@@ -156,14 +154,13 @@ graph_simes <- function(graph, p, alpha = 0.025) {
   found <- closed_levels(weights, case$p$read, case$alpha$read, "simes")
   hold_verdicts(weights$sets, found$local, report$bound[match(weights$codes, report$codes)] >= 1L, length(graph$names), weights$codes)
   single <- match(2^(seq_along(graph$names) - 1), weights$codes)
-  out <- new_bounds(report, case, "Simes")
+  out <- unclass(new_bounds(report, case, "Simes"))
   out$top <- report$top
   out$rejected <- stats::setNames(report$rejected, graph$labels)
   out$adjusted <- stats::setNames(adjusted_doubles(found$p_closed[single], report$rejected, case$alpha$read), graph$labels)
   out$reached <- stats::setNames(found$reached[single], graph$labels)
   out$exact <- table_of(hypothesis = graph$labels, p = case$p$read, adjusted = found$p_closed[single])
-  class(out) <- c("welungad_simes", class(out))
-  out
+  structure(out, class = c("welungad_simes", "welungad_bounds"))
 }
 
 new_bounds <- function(report, case, test) {
@@ -196,9 +193,7 @@ as.data.frame.welungad_bounds <- function(x, ...) {
 # Some of the sets.
 `[.welungad_bounds` <- function(x, i, ...) {
   at <- places_of_sets(x, i)
-  x$sets <- x$sets[at]
-  x$bound <- x$bound[at]
-  x
+  with_parts(x, list(sets = x$sets[at], bound = x$bound[at]))
 }
 
 format.welungad_bounds <- function(x, ...) {

@@ -69,3 +69,10 @@ entangled <- function() {
 }
 
 refusal_of <- function(code) tryCatch(code, welungad_refusal = identity)
+
+# A graph or a result with another part, which an assignment refuses: such as one of an older version, from a file.
+with_part <- function(x, part, value) {
+  parts <- unclass(x)
+  parts[[part]] <- value
+  structure(parts, class = class(x))
+}

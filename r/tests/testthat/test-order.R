@@ -161,7 +161,7 @@ test_that("labels and names that change places are an error, and new ones are no
     expect_match(graph_test(fresh, p)$case, "hypotheses X Y", fixed = TRUE)
     # also of a result
     x <- graph_test(labelled, p)
-    x$graph$labels <- rev(x$graph$labels)
+    x <- with_part(x, "graph", with_part(x$graph, "labels", rev(x$graph$labels)))
     for (call in list(print, as.data.frame, summary, plot, graph_steps, graph_rejections, function(x) graph_report(x, tempfile()))) {
       expect_error(call(x), "^graph: \"high dose\" was the label of another hypothesis")
     }
@@ -441,13 +441,12 @@ test_that("what no call would read of a graph that was changed is an error", {
   each_way(function(way) {
     fault <- "^graph: a graph has the parts .*, and nothing reads a part \"%s\"$"
     for (part in c("hypotheses", "transitions", "weights", "Components")) {
-      graph <- pair()
-      graph[[part]] <- c(H1 = 1, H2 = 0)
+      graph <- with_part(pair(), part, c(H1 = 1, H2 = 0))
       expect_error(graph_test(graph, c(0.02, 0.9)), sprintf(fault, part))
     }
     graph <- pair()
     expect_error(graph$component[[1]]$weights["H1"] <- "1", "^a welungad_graph has no part \"component\"")
-    graph[["component"]] <- list(list(weights = c(H1 = "1", H2 = "0")))
+    graph <- with_part(graph, "component", list(list(weights = c(H1 = "1", H2 = "0"))))
     for (call in list(graph_canon, function(x) graph_stages(x, list(0.01, 0.01), at = 1), function(x) graph_entangle(x, shares = 1))) {
       expect_error(call(graph), sprintf(fault, "component"))
     }

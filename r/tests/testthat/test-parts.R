@@ -53,3 +53,62 @@ test_that("a name that is no part of a result is an error, and so is the beginni
     expect_output(str(x), "adjusted")
   })
 })
+
+test_that("an assignment to a graph that no call would read is an error, which says what to write", {
+  each_way(function(way) {
+    graph <- pair()
+    before <- graph
+    weights <- "^no call would read a new part \"%s\" of a graph: graph_create[(]new, graph[$]transitions[)] makes a graph with the new weights$"
+    edges <- "^no call would read a new part \"%s\" of a graph: graph_create[(]graph[$]hypotheses, new[)] makes a graph with the new edges$"
+    expect_error(graph$hypotheses <- c(1, 0), sprintf(weights, "hypotheses"))
+    expect_error(graph$hypotheses["H1"] <- 0.25, sprintf(weights, "hypotheses"))
+    expect_error(graph[["hypotheses"]][["H1"]] <- 0.25, sprintf(weights, "hypotheses"))
+    expect_error(graph["hypotheses"] <- list(c(1, 0)), sprintf(weights, "hypotheses"))
+    expect_error(graph[["weights"]] <- c(1, 0), sprintf(weights, "weights"))
+    expect_error(graph$transitions <- matrix(0, 2, 2), sprintf(edges, "transitions"))
+    expect_error(graph$transitions["H1", "H2"] <- 0.5, sprintf(edges, "transitions"))
+    expect_error(graph$m <- matrix(0, 2, 2), sprintf(edges, "m"))
+    for (part in c("read", "written", "Components")) expect_error(graph[[part]] <- 1, paste0("^no call would read a new part \"", part, "\" of a graph: "))
+    elements <- "^no call would read this element of a graph: graph_create"
+    expect_error(graph["H1", "H2"] <- 0.5, elements)
+    expect_error(graph[["H1", "H2"]] <- 0.5, elements)
+    expect_error(diag(graph) <- 0, elements)
+    expect_error(graph[[7]] <- 1, elements)
+    labels <- "graph[$]labels <- new gives new labels$"
+    expect_error(names(graph) <- c("A", "B"), labels)
+    expect_error(names(graph)[1] <- "A", labels)
+    expect_error(dimnames(graph) <- list(c("A", "B"), c("A", "B")), labels)
+    expect_error(dim(graph) <- 4, "a new size of a graph: graph_create makes")
+    expect_error(length(graph) <- 1, "a new size of a graph: graph_create makes")
+    expect_identical(graph, before)
+    # labels and components are read
+    graph$labels <- c("low", "high")
+    expect_identical(names(graph), c("low", "high"))
+    graph[["labels"]] <- c("A", "B")
+    graph["labels"] <- list(c("C", "D"))
+    expect_identical(names(graph_test(graph, c(0.001, 0.9))$rejected), c("C", "D"))
+  })
+})
+
+test_that("an assignment to a part of a result is an error", {
+  each_way(function(way) {
+    p <- c(0.018, 0.01, 0.105, 0.006)
+    x <- graph_test(diabetes(), p)
+    evidence <- graph_evidence(diabetes(), p)
+    results <- list(x, graph_test_closure(diabetes(), p), graph_bounds(diabetes(), p), graph_simes(diabetes(), p), graph_steps(x), summary(x), evidence,
+      graph_check(diabetes(), p, evidence = evidence), graph_stages(diabetes(), rep(list(0.001), 4), at = 1), summary(graph_test_many(diabetes(), rbind(p))))
+    for (result in results) {
+      before <- result
+      told <- paste0("^no part of a ", class(result)[1], " is assigned, since it would no longer be what was decided: decide again, or change a copy")
+      expect_error(result$graph <- 1, told)
+      expect_error(result$rejected <- TRUE, told)
+      expect_error(result[["alpha"]] <- "1/20", told)
+      expect_error(result["H1"] <- list(TRUE), told)
+      expect_error(names(result) <- "a", told)
+      expect_identical(result, before)
+    }
+    expect_error(x$rejected[["H3"]] <- TRUE, "^no part of a welungad_test is assigned")
+    expect_error(names(x$rejected) <- rev(names(x$rejected)), "^no part of a welungad_test is assigned")
+    expect_error(x["H3", "rejected"] <- TRUE, "^no part of a welungad_test is assigned")
+  })
+})

@@ -113,13 +113,11 @@ test_that("a file has the whole page, or stays as it was", {
     expect_error(graph_report(x, pipe), "can't be written: it is not a file$")
     expect_equal(list.files(folder, all.files = TRUE), before)
     writeLines("old", file)
-    changed <- x
-    changed$report[2] <- "step 1 low_dose p 1/50 weight 1/2"
+    changed <- with_part(x, "report", replace(x$report, 2, "step 1 low_dose p 1/50 weight 1/2"))
     expect_error(graph_report(changed, file), "x: the result was changed after it was made: decide again what is meant", fixed = TRUE)
-    changed <- x
-    changed$case <- sub("1/100", "1/10", x$case)
+    changed <- with_part(x, "case", sub("1/100", "1/10", x$case))
     expect_error(graph_report(changed, file), "there is no page: the program decides this case otherwise than the report that was given", fixed = TRUE)
-    changed$graph$labels <- c("a", "a")
+    changed <- with_part(changed, "graph", with_part(x$graph, "labels", c("a", "a")))
     expect_error(graph_report(changed, file), "labels: the name \"a\" occurs twice", fixed = TRUE)
     expect_equal(readLines(file), "old")
   })

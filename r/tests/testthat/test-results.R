@@ -52,28 +52,27 @@ test_that("a result that was changed is an error", {
     x <- graph_test(diabetes(), c(0.018, 0.01, 0.105, 0.006))
     calls <- list(print, summary, as.data.frame, plot, graph_steps, graph_rejections, function(x) x["H1"], function(x) graph_report(x, tempfile()))
     changes <- list(
-      function(x) { x$rejected[["H3"]] <- TRUE; x },
-      function(x) { names(x$rejected) <- rev(names(x$rejected)); x },
-      function(x) { x$order <- rev(x$order); x },
-      function(x) { x$alpha <- "1/20"; x },
-      function(x) { x$adjusted[] <- 0.001; x },
-      function(x) { x$exact$weight[1] <- "1"; x },
-      function(x) { x$graph <- holm(4); x },
-      function(x) { x$case <- sub("p ", "p 0 ", x$case); x$graph <- pair(); x },
-      function(x) { x$report <- x$report[-2]; x }
+      function(x) with_part(x, "rejected", replace(x$rejected, "H3", TRUE)),
+      function(x) with_part(x, "rejected", stats::setNames(x$rejected, rev(names(x$rejected)))),
+      function(x) with_part(x, "order", rev(x$order)),
+      function(x) with_part(x, "alpha", "1/20"),
+      function(x) with_part(x, "adjusted", replace(x$adjusted, TRUE, 0.001)),
+      function(x) with_part(x, "exact", replace(x$exact, "weight", list(c("1", x$exact$weight[-1])))),
+      function(x) with_part(x, "graph", holm(4)),
+      function(x) with_part(with_part(x, "case", sub("p ", "p 0 ", x$case)), "graph", pair()),
+      function(x) with_part(x, "report", x$report[-2])
     )
     for (change in changes) for (call in calls) expect_error(call(change(x)), fault)
     expect_error(graph_steps(changes[[6]](x)), fault)
     closed <- graph_test_closure(pair(), c(0.001, 0.9))
-    names(closed$rejected) <- c("H2", "H1")
+    closed <- with_part(closed, "rejected", stats::setNames(closed$rejected, c("H2", "H1")))
     for (call in list(print, as.data.frame, plot)) expect_error(call(closed), fault)
     bounds <- graph_bounds(pair(), c(0.001, 0.9))
-    bounds$graph <- pair(c("A", "B"))
+    bounds <- with_part(bounds, "graph", pair(c("A", "B")))
     for (call in list(print, as.data.frame)) expect_error(call(bounds), fault)
     staged <- graph_stages(pair(), list(0.01, 0.01), data.frame(hypothesis = "H1", stage = 1, p = 0.001), at = 1)
     for (change in list(list("rejected", c(H1 = TRUE, H2 = TRUE)), list("alpha", "1/20"), list("graph", pair(c("A", "B"))))) {
-      changed <- staged
-      changed[[change[[1]]]] <- change[[2]]
+      changed <- with_part(staged, change[[1]], change[[2]])
       for (call in list(print, as.data.frame, plot)) expect_error(call(changed), fault)
     }
   })

@@ -148,12 +148,10 @@ test_that("a study needs a file, and a staged case without looks", {
     expect_error(graph_study(late, store), "case: a study begins without looks")
     expect_error(graph_study(1, store), "case: a result of graph_stages")
     for (change in list(list("alpha", "1/20"), list("alpha", 0.05), list("graph", graph_create(c(PFS = 1, OS = 0), rbind(0:1, 1:0))))) {
-      changed <- staged()
-      changed[[change[[1]]]] <- change[[2]]
+      changed <- with_part(staged(), change[[1]], change[[2]])
       expect_error(graph_study(changed, store), "^case: its level or its graph was changed: call graph_stages with the new one$")
     }
-    changed <- staged()
-    changed$levels <- list(PFS = 0.01, OS = 0.01)
+    changed <- with_part(staged(), "levels", list(PFS = 0.01, OS = 0.01))
     expect_error(graph_study(changed, store), "^case: a staged test has the parts .*, and nothing reads a part \"levels\"$")
     expect_false(file.exists(paste0(store, ".case")))
     expect_error(plot(graph_study(staged(), store)), "a study has no picture")
