@@ -98,7 +98,7 @@ int main(void) {
 SCRIPTS = "welungad install uninstall unproved tools/stamps.sh tools/placing.sh c/build.sh r/configure .ci/run bench/kept.py".split()
 AS_HERE = "VERSION c/calls.c c/proved.names c/welungad.h c/welungad.map c/examples/decide.c docs/welungad.1 tools/welungad-qualify".split()
 INSTALLED = (
-    "README.md CHANGES.md LICENSE LICENSE-MIT LICENSE-APACHE CITATION.cff docs/FORMATS.md docs/pictures/holm.svg examples/holm.txt "
+    "README.md CHANGES.md LICENSE LICENSE-MIT LICENSE-APACHE CITATION.cff docs/FORMATS.md docs/REFUSALS.md docs/pictures/holm.svg examples/holm.txt "
     "tools/draw.py c/README.md python/README.md python/pyproject.toml python/welungad/__init__.py python/welungad/py.typed "
     "r/DESCRIPTION r/configure r/R/test.R r/R/call.R r/man/a.Rd r/src/a.c r/inst/a.txt r/.Rbuildignore"
 ).split()
