@@ -14,8 +14,9 @@ over what an earlier run on this machine proved from the same files, so have it 
     kill $sampler
 
 `table` prints the rows of the table in bench/README.md, in the order of crates.txt; with the FILE of an earlier run, also the
-crates that changed by more than a quarter of a minute. Let nothing else prove beside it: all provers of the machine count. A
-process that ends between two looks loses less than half a second, so small crates come out a little low.
+crates that changed by more than a quarter of a minute. Let nothing else prove beside it: provers of other checkouts don't count, but
+slow these down, and planted bugs of any checkout count. A process that ends between two looks loses less than half a second, so small
+crates come out a little low.
 """
 import collections
 import json
@@ -40,8 +41,11 @@ def process_key(process):
     if "--crate-name" not in words:
         return "native", "?"
     crate = words[words.index("--crate-name") + 1]
-    if "/rt-edit" in os.readlink(process / "cwd"):
+    place = os.readlink(process / "cwd")
+    if "/rt-edit" in place:
         return "planted", crate
+    if not place.startswith(f"{TOP}/"):
+        return None
     if "--test" in words:
         return "test", crate
     return "proof", crate
