@@ -7,7 +7,8 @@ PAGE is a file that report.py, `Graph.report` or `graph_report` has written, and
 shares no code with `welungad` nor with what makes pages, and needs Python 3.9 or later alone. From the case in its one spelling, which
 is on the page, it computes anew what the page has to say, and compares
 
-- the headline, the digests, the tables of the decision, of the graph, of looks, of intersections and of bounds, and each picture;
+- the headline, the digests, the tables of the decision, of the graph, of looks, of intersections and of bounds;
+- each picture, element by element, by check_pictures.py: circles, arrows and texts with their places, sizes and colours;
 - what the program printed, and the evidence that this report leads to;
 - the case as it was given, which has to denote the case in its one spelling;
 - each sentence of the page with those that pages have, the commands, and the digests of the scripts;
@@ -29,18 +30,20 @@ import sys
 import unicodedata
 from collections import Counter
 from fractions import Fraction
+from itertools import zip_longest
 
 HERE = os.path.dirname(os.path.abspath(__file__))
 sys.path.insert(0, HERE)  # also where Python is told to leave it out
 
 import check_evidence  # noqa: E402
+import check_pictures  # noqa: E402
 import closed_test  # noqa: E402
 import make_evidence  # noqa: E402
 from check_evidence import Stop  # noqa: E402
 from staged_case import level, staged_case_of  # noqa: E402
 
 MOST_CLOSED, MOST_SETS, MOST_BOUNDS, MOST_STATES, MOST_PRINTED, MOST_EDGES, MOST_AGAIN = 12, 6, 16, 16, 8, 30, 8
-SCRIPTS = ("check_page", "check_evidence", "make_evidence", "closed_test", "staged_case")
+SCRIPTS = ("check_page", "check_pictures", "check_evidence", "make_evidence", "closed_test", "staged_case")
 RELEASE = "0.2.0"
 POWERS = ["", "ε", "ε²", "ε³", "ε⁴"]
 FOOTER = ("This page does not show that the p-values are valid, that the graph was fixed before the data were seen, or that the case is the one of "
@@ -52,7 +55,6 @@ REFUSED_UNCHECKED = "the title, the cause, the cure, the marked line, the name o
 UNCHECKED = (
     "the title, the labels, the name of the file, the priority in the commands and the lines to fill in",
     "of the text that was given, what changes nothing of the case",
-    "of the pictures, the drawing: positions, sizes, colours, curves and arrows; checked are their titles, descriptions and texts",
     "which proved calls made the evidence and the edges of the pictures",
     "the scripts themselves: their digests on the page are compared with the files beside this one",
 )
@@ -245,10 +247,12 @@ def hold_style(style, title):
 
 
 def figure_of(element):
-    """What a picture shows: its title, its description, and how often each text is in it."""
+    """What a picture shows: its title, its description, its size, and its elements in their order, each with its text."""
     caption, svg = next(element.all("figcaption")), next(element.all("svg"))
     titles = [next(svg.all(name)).text() for name in ("title", "desc")]
-    return ("picture", caption.text(), *titles, sorted(it.text() for it in svg.all("text")))
+    size = " ".join(f'{name}="{svg.attributes[name]}"' for name in ("viewBox", "width", "height"))
+    drawn = [(f"{it.name}{it.given}", it.raw()) for it in svg.all("marker", "path", "rect", "circle", "text")]
+    return ("picture", caption.text(), *titles, [(size, ""), *drawn])
 
 
 def parts_of(element):
@@ -646,34 +650,40 @@ class Wanted:
         if count > MOST_STATES:
             yield ("p", f"A graph of more than {MOST_STATES} hypotheses is drawn once.")
         figures = [*self.figures(is_whole)]
-        if count <= MOST_PRINTED or len(figures) <= 2:
-            yield from figures
-        else:
-            yield from [figures[0], figures[-1], ("summary", f"The {len(figures) - 2} pictures between these two, which are not printed"), *figures[1:-1]]
+        if count > MOST_PRINTED and len(figures) > 2:
+            between = [("summary", f"The {len(figures) - 2} pictures between these two, which are not printed")]
+            figures = [figures[0], figures[-1], between, *figures[1:-1]]
+        for figure in figures:
+            yield from figure
 
     def figures(self, is_whole):
-        """The pictures before the first rejection and after each; those that the page refuses are not checked."""
-        parts, few = self.decision.components(), len(self.names) <= MOST_STATES
-        kinds = [it for it in self.page.sections.get("graph", []) if it[0] in ("picture", "list")]
+        """The parts of the picture before the first rejection and after each. One that the page refuses is not checked."""
+        parts, few, centres = self.decision.components(), len(self.names) <= MOST_STATES, None
+        shown = self.page.sections.get("graph", [])
         for n in range(len(self.order) + 1 if few else 1):
             if n:
                 for part in parts:
                     part.remove(self.order[n - 1])
-            if any(kind[0] == "list" for kind in kinds):
-                self.skipped.append("the pictures, some of which the page has no weights for")
-                yield from [it for it in self.page.sections["graph"] if it[0] in ("picture", "list") or (it[0] == "p" and "there is no picture" in it[1])]
-                return
-            yield self.figure(parts, n, is_whole or n == 0, few)
+            title = self.title_of(n) if few or not self.order else "Before the first rejection, with the step of each later one"
+            refused = ("p", f"{title}: there is no picture, since the program prints no weights for it.")
+            if refused in shown[:-1]:
+                self.skipped.append("the pictures that the page has no weights for")
+                yield [refused, shown[shown.index(refused) + 1]]
+                continue
+            edges = [self.decision.edges_after(part, self.order[:n], is_whole or n == 0) for part in parts]
+            if centres is None:
+                begins = [k not in self.order[:n] and any(part.weight(k) for part in parts) for k in self.decision.known]
+                centres = check_pictures.centres(begins, [pair for found in edges for pair in found])
+            yield [self.figure(parts, n, title, edges, centres)]
 
-    def figure(self, parts, n, is_whole, few):
-        removed, case = self.order[:n], self.case
-        total = self.decision.weights_after(parts, removed)
-        edges = [self.decision.edges_after(part, removed, is_whole) for part in parts]
-        title = "The graph: no hypothesis is rejected"
-        if self.order:
-            title = (f"After step {n}: {self.tags[self.order[n - 1]]} is rejected" if n else "Before the first rejection") + (
-                ", the end" if n == len(self.order) else "")
-            title = title if few else "Before the first rejection, with the step of each later one"
+    def title_of(self, n):
+        if not self.order:
+            return "The graph: no hypothesis is rejected"
+        return (f"After step {n}: {self.tags[self.order[n - 1]]} is rejected" if n else "Before the first rejection") + (
+            ", the end" if n == len(self.order) else "")
+
+    def figure(self, parts, n, title, edges, centres):
+        removed, total = self.order[:n], self.decision.weights_after(parts, self.order[:n])
         sentences = [f"Rejected: {self.tags_of(removed)}."] if removed else []
         for k in total:
             sentence = f"{self.tags[k]} has the weight {total[k]}"
@@ -682,15 +692,23 @@ class Wanted:
                 if passed and len(self.names) <= MOST_PRINTED:
                     sentence += f" and passes{f' in component {c}' if len(parts) > 1 else ''} {listed(passed)}"
             sentences.append(sentence + ".")
-        marked = removed if few else self.order
-        texts = [*self.tags, *(short(part.weight(k)) for part in parts for k in total)]
-        texts += [f"p {decimal(x)}" for x in case.p] + [str(self.order.index(k) + 1) for k in marked] + [text for found in edges for text in found.values()]
-        texts.append(f"level α = {decimal(case.alpha)}")
+        drawn = next((it[4] for it in self.page.sections["graph"] if it[:2] == ("picture", title)), [])
+        spelled = {plain(text): text for _, text in drawn}
+        picture = check_pictures.Picture(
+            centres, [spelled.get(tag, tag) for tag in self.tags],
+            [(i, j, c, text) for c, found in enumerate(edges) for (i, j), text in found.items()],
+            [{k: short(part.weight(k)) for k in total} for part in parts], [f"p {decimal(x)}" for x in self.case.p],
+            {k: self.order.index(k) + 1 for k in (removed if len(self.names) <= MOST_STATES else self.order)}, self.lines_below(parts, edges))
+        return ("picture", title, title, " ".join(sentences) or "No hypothesis is left.", picture.elements(f"graph{n}-", drawn))
+
+    def lines_below(self, parts, edges):
+        """The lines below a picture, with their colours."""
+        lines = [(check_pictures.INK, f"level α = {decimal(self.case.alpha)}")]
         if len(parts) > 1 or parts[0].share != 1:
-            texts += [f"component {c}: share {part.share}" for c, part in enumerate(parts, 1)]
-        texts += ["ε: a positive number below every positive fraction"] if any("ε" in text for found in edges for text in found.values()) else []
-        texts.append("filled: rejected, with the number of the step")
-        return ("picture", title, title, " ".join(sentences) or "No hypothesis is left.", sorted(map(plain, texts)))
+            lines += [(check_pictures.COLOURS[c % 8], f"component {c + 1}: share {part.share}") for c, part in enumerate(parts)]
+        if any("ε" in text for found in edges for text in found.values()):
+            lines.append((check_pictures.INK, "ε: a positive number below every positive fraction"))
+        return [*lines, (check_pictures.INK, "filled: rejected, with the number of the step")]
 
     # ---- intersections, bounds
 
@@ -876,8 +894,8 @@ def difference(found, wanted):
             if line != other:
                 return f"line {n}: it has {line!r}, and the case implies {other!r}"
     if found and wanted and found[0] == wanted[0] == "picture" and found[:4] == wanted[:4]:
-        more, less = Counter(found[4]) - Counter(wanted[4]), Counter(wanted[4]) - Counter(found[4])
-        return f"the picture {found[1]!r}: it has {sorted(more)}, and the case implies {sorted(less)}"
+        one, other = next(pair for pair in zip_longest(found[4], wanted[4], fillvalue=("nothing", "")) if pair[0] != pair[1])
+        return f"the picture {found[1]!r}: it has {' '.join(one).strip()!r}, and the case implies {' '.join(other).strip()!r}"
     return f"it has {told(found)[:300]}, and the case implies {told(wanted)[:300]}"
 
 

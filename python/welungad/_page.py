@@ -27,7 +27,7 @@ MOST_EDGES, MOST_PRINTED = 30, 8  # edges of a graph that is drawn; hypotheses o
 MOST_LINES = 40  # lines of a text that is printed in one column
 SAME = "<p>It was given in its one spelling, which follows.</p>"
 RELEASE = "0.2.0"
-SCRIPTS = ("check_page", "check_evidence", "make_evidence", "closed_test", "staged_case")
+SCRIPTS = ("check_page", "check_pictures", "check_evidence", "make_evidence", "closed_test", "staged_case")
 P_VALUE, BLANK = '<span class="whole">p-value</span>', '<span class="blank"></span>'
 
 Found = TypeVar("Found")
