@@ -43,7 +43,14 @@ from check_evidence import Stop  # noqa: E402
 from staged_case import level, staged_case_of  # noqa: E402
 
 MOST_CLOSED, MOST_SETS, MOST_BOUNDS, MOST_STATES, MOST_PRINTED, MOST_EDGES, MOST_AGAIN = 12, 6, 16, 16, 8, 30, 8
-SCRIPTS = ("check_page", "check_pictures", "check_evidence", "make_evidence", "closed_test", "staged_case")
+SCRIPTS = {
+    "check_page": "whether a page says what its own case implies",
+    "check_pictures": "what its pictures have to be, for check_page.py",
+    "check_evidence": "whether evidence holds for a case",
+    "make_evidence": "evidence for a decision, also where the program makes none",
+    "closed_test": "the decision by the definition of the closed test, over all intersections",
+    "staged_case": "cases with stages, for check_page.py and closed_test.py; not a command",
+}
 RELEASE = "0.2.0"
 POWERS = ["", "ε", "ε²", "ε³", "ε⁴"]
 FOOTER = ("This page does not show that the p-values are valid, that the graph was fixed before the data were seen, or that the case is the one of "
@@ -51,13 +58,25 @@ FOOTER = ("This page does not show that the p-values are valid, that the graph w
 UNSTATED = "Which program answered was not stated."
 WAY_ROUND = ("Or let a script decide, with numbers of any size. If the program then says yes to its evidence, the closed test rejects what is "
              "listed, and nothing else. If the numbers of the evidence are too wide for the program too, the last line alone checks it.")
-REFUSED_UNCHECKED = "the title, the cause, the cure, the marked line, the name of the file, the program and the lines to fill in"
-UNCHECKED = (
-    "the title, the labels, the name of the file, the priority in the commands and the lines to fill in",
-    "of the text that was given, what changes nothing of the case",
-    "which proved calls made the evidence and the edges of the pictures",
-    "the scripts themselves: their digests on the page are compared with the files beside this one",
+ORIGIN = (
+    "In what it was built from, sha256 has the digest of a built file, commit the commit of the sources, built the names that git gives to the parts of "
+    "these sources, kit the checker and the compiler, and checkout the commit of the documents. If some lines begin with library, they are about the C "
+    "library, and the others about the program, which may be of another commit.",
+    "To see whether your own copy is the one that answered, compare the digest with what sha256sum prints of it. It is bin/welungad or "
+    "lib/libwelungad.so of an installation, or libwelungad.so in the folder of the Python package. The file PROVED of a release has the digests of "
+    "what was proved; that they are the same, no page can show.",
 )
+REFUSED_UNCHECKED = ("the title, the cause, the cure, the marked line, the name of the file, the protocol, the data cut, the author, and the program with its "
+                     "release, its digest and what it was built from")
+UNCHECKED = (
+    "the title, above the page and on each sheet, which the case does not have",
+    "the protocol, the data cut and the author, the name of the file, and the priority in the commands",
+    "of the text that was given, what changes nothing of the case",
+    "which proved calls made the evidence and the edges of the pictures; in the pictures, tenths of a pixel",
+    "the scripts, this one too: their digests on the page are compared with the files beside this one",
+)
+OWN_LABELS = "the labels, which are other names than those of the case; the table after the case has both"
+UNSTATED_ORIGIN = "which program or library answered, with its release and what it was built from; its digest is that of its own stamp"
 
 
 class NotAPage(Exception):
@@ -814,14 +833,15 @@ class Wanted:
     def program(self):
         """What is said of the program, which the case does not imply. Its digest has to be that of what it was built from."""
         found = [it for it in self.page.sections.get("program", []) if it[0] in ("list", "p")][:1]
-        self.skipped.append("the program and what it was built from")
+        self.skipped.append(UNSTATED_ORIGIN)
         if not found or found[0][0] != "list":
             return [("p", UNSTATED)]
         said = found[0][1][2 if found[0][1][:1] == ["Release of the C library"] else 0 :]
         for kind, name in (("program", "welungad"), ("C library", "libwelungad.so")):
             if said[:1] == [f"SHA-256 digest of the {kind}"] and said[2:3] == ["What it was built from"] and len(said) == 4:
                 stamped = re.search(rf"sha256 {re.escape(name)}[0-9.]* ([0-9a-f]{{64}})", said[3])
-                return found if stamped and stamped[1] == said[1] else [("list", f"a digest of the {kind} that is the one of its stamp")]
+                stated = [*found, *(("p", text) for text in ORIGIN)]
+                return stated if stamped and stamped[1] == said[1] else [("list", f"a digest of the {kind} that is the one of its stamp")]
         return [("list", "the digest of the program or of the C library, and what it was built from")]
 
     def commands(self):
@@ -829,6 +849,8 @@ class Wanted:
         priority = next((f" --priority {it[1]}" for it in [re.search(r" --priority (first|last|ratio)", self.words["test"])] if it), "")
         options = "".join(" " + shlex.quote(word) for word in self.options)
         yield ("h3", "To repeat it")
+        yield ("p", "The first line reads a file with the case as it was given, which is above. If you have only the case in its one spelling, call it "
+               "case.txt, and leave out the first line.")
         yield ("lines", "\n".join([f"welungad canon{options} < {shlex.quote(self.file)} > case.txt", "sha256sum case.txt",
                                    f"welungad {test}{priority} < case.txt > report.txt"]))
         made, script = [], self.words["script"]
@@ -854,10 +876,17 @@ class Wanted:
                "and nothing else. They are in the folder tools of the repository, in share/welungad/tools of an installation, and in the Python package, "
                "which runs them by python3 -m welungad.reviewer.NAME.")
         rows = []
-        for name in SCRIPTS:
+        for name, purpose in SCRIPTS.items():
             with open(os.path.join(HERE, f"{name}.py"), "rb") as file:
-                rows.append(["", f"{name}.py", hashlib.sha256(file.read()).hexdigest()])
-        yield ("table", "scripts", "The scripts by which this page can be checked", [["", "Script", "SHA-256"], *rows])
+                rows.append(["", f"{name}.py", purpose, hashlib.sha256(file.read()).hexdigest()])
+        yield ("table", "scripts", "The scripts by which this page can be checked", [["", "Script", "What it finds or reads", "SHA-256"], *rows])
+        yield ("p", "A script that somebody has changed can answer anything, also about itself. So take the scripts from a source that you trust, and not "
+               "from whoever sent this page. This prints the digests of your copies, to be compared with those of the table:")
+        names = [f"{name}.py" for name in SCRIPTS]
+        if "-m" in self.words["script"](""):
+            yield ("lines", f"(cd \"$(python3 -c 'import welungad; print(*welungad.__path__)')/reviewer\" && sha256sum {' '.join(names)})")
+        else:
+            yield ("lines", " ".join(["sha256sum", *(f"tools/{name}" for name in names)]))
 
 
 def same_case(one, other):
@@ -1011,7 +1040,8 @@ def answer(text, evidence=None):
     if found:
         return 1, "no:\n" + "".join(f"  {it}\n" for it in found)
     rejected = " ".join(["rejected", *decision.names_rejected])
-    skipped = "".join(f"not checked: {it}\n" for it in dict.fromkeys([*UNCHECKED, *wanted.skipped]))
+    own = [OWN_LABELS] if wanted.labels != wanted.names else []
+    skipped = "".join(f"not checked: {it}\n" for it in dict.fromkeys([*UNCHECKED, *own, *wanted.skipped]))
     return 0, f"yes\n{rejected}\n{skipped}end\n"
 
 

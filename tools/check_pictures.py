@@ -15,10 +15,10 @@ RADIUS, GAP, HIGH, INK = 40, 200, 215, "#111"
 NUMBER = re.compile(r"-?\d+(?:\.\d)?")
 
 
-def same_but_rounded(found, wanted, most=0.15):
-    """Whether two texts differ in numbers alone, and in these by no more than `most`."""
+def same_but_rounded(found, wanted):
+    """Whether two texts differ in numbers alone, and in these by a tenth at most."""
     pairs = zip_longest(NUMBER.findall(found), NUMBER.findall(wanted), fillvalue="inf")
-    return NUMBER.sub("", found) == NUMBER.sub("", wanted) and all(abs(float(x) - float(y)) <= most for x, y in pairs)
+    return NUMBER.sub("", found) == NUMBER.sub("", wanted) and all(abs(float(x) - float(y)) < 0.15 for x, y in pairs)
 
 
 # ---- where the circles are
@@ -156,8 +156,7 @@ class Picture:
         wanted = [*self.heads(prefix), (f'rect x="{self.left:.0f}" y="{self.top:.0f}" width="100%" height="100%" fill="#fff"', ""), *self.curves(prefix),
                   *self.edge_texts(shown), *(it for k in range(len(self.tags)) for it in self.hypothesis(k)), *below]
         wanted = [(f'viewBox="{box}" width="{self.right - self.left:.0f}" height="{self.bottom - self.top:.0f}"', ""), *wanted]
-        return [(one[0] if one and same_but_rounded(one[0], other[0], 1 if "100%" in other[0] or n == 0 else 0.15) else other[0], other[1])
-                for n, (one, other) in enumerate(zip_longest(found[: len(wanted)], wanted))]
+        return [(one[0] if one and same_but_rounded(one[0], other[0]) else other[0], other[1]) for one, other in zip_longest(found[: len(wanted)], wanted)]
 
 
 def text_at(z, size, colour=INK, anchor="middle", weight="normal"):

@@ -119,7 +119,7 @@ class Pages(unittest.TestCase):
 
     def test_yes(self):
         """Whether the answer on a page is yes, with what is rejected and what was not checked, and with the evidence whose digest it has."""
-        unchecked = [*check_page.UNCHECKED, "the program and what it was built from"]
+        unchecked = [*check_page.UNCHECKED, check_page.UNSTATED_ORIGIN]
         wanted = "yes\nrejected H1\n" + "".join(f"not checked: {it}\n" for it in unchecked) + "end\n"
         self.assertEqual(check_page.answer(self.page), (0, wanted))
         self.assertEqual(check_page.answer(self.page, EVIDENCE.encode()), (0, wanted))
@@ -180,6 +180,58 @@ class Pages(unittest.TestCase):
         for row in rows:
             for text in ("", row[0] * 2):
                 self.assertEqual(check_page.answer(self.page[: row.start()] + text + self.page[row.end():])[0], 1, row[0])
+
+    def test_title(self):
+        """Whether another title changes no answer, since no case has one, and is among what was not checked; and whether it has to be the same
+        above the page, as that of the file and on each sheet."""
+        title, other = "The decision on two.txt", "Both doses are better than placebo"
+        self.assertEqual(self.page.count(title), 3)
+        places = [(f"<title>{title}<", f"<title>{other}<"), (f"<h1>{title}<", f"<h1>{other}<"), (f'content: "{title}"', f'content: "{other}"')]
+        page = self.page
+        for old, new in places:
+            self.assertIn(old, page)
+            with self.assertRaisesRegex(check_page.NotAPage, "title"):
+                check_page.answer(self.page.replace(old, new))
+            page = page.replace(old, new)
+        status, text = check_page.answer(page)
+        self.assertEqual((status, text.split("\n")[2]), (0, "not checked: the title, above the page and on each sheet, which the case does not have"))
+
+    def test_labels(self):
+        """Whether labels are among what was not checked if they are other names than those of the case, and only then; and whether labels that
+        are exchanged throughout are such."""
+        own = f"not checked: {check_page.OWN_LABELS}\n"
+        self.assertNotIn(own, check_page.answer(self.page)[1])
+        for labels in (["high", "low"], ["H2", "H1"]):
+            status, text = check_page.answer(page_of(CASE, answering(), labels=labels))
+            self.assertEqual((status, own in text), (0, True))
+
+    def test_each_digit(self):
+        """Whether each digit of a page counts, but for those in what the answer names as not checked: here in the protocol, the data cut and
+        the author, in the name of the file, in a remark of the text that was given, in what is said of the program, and in tenths of a pixel."""
+        library = [("Release of the C library", "0.2.0"), ("SHA-256 digest of the C library", "ab" * 32),
+                   ("What it was built from", f"built 12ab 34cd\ncommit 56ef\nkit 7\nsha256 libwelungad.so {'ab' * 32}\nsha256 welungad {'cd' * 32}")]
+        facts = _page.Facts("Protocol 12", "2026-05-01", "Author 3")
+        page = page_of("# case 4\n" + CASE, answering(canon=(0, CANON)), file="two5.txt", title="Trial 6", program=library, facts=facts)
+        self.assertEqual(check_page.answer(page)[0], 0)
+        named = [re.search(pattern, page, re.DOTALL).span() for pattern in (
+            '<dl class="facts">.*?</dl>', "&lt; two5.txt", "# case 4", "<dt>Release of the C library</dt>.*?</dd>",
+            "<dt>What it was built from</dt>.*?</dd>")]
+        digest = page.index("ab" * 32, named[-1][0])
+        named += [found.span(1) for drawn in re.finditer("<(?:path|rect|circle|text) [^>]*>", page) for found in re.compile(r"\d\.(\d)").finditer(page, *drawn.span())
+                  if found.start() > page.index("</style>")]
+        digits = [it.start() for it in re.finditer("[0-9]", page)]
+        self.assertGreater(len(digits), 1000)
+        named_digits = 0
+        for at in digits:
+            is_named = any(start <= at < end for start, end in named) and not digest <= at < digest + 64
+            other = page[:at] + ("1" if page[at] != "1" else "2") + page[at + 1:]
+            try:
+                status = check_page.answer(other)[0]
+            except check_page.NotAPage:
+                status = 2
+            self.assertTrue(is_named or status, page[at - 60 : at + 60])
+            named_digits += is_named and not status
+        self.assertGreater(named_digits, 30)
 
     def test_what_is_not_said(self):
         """Whether the answer stays yes if an alteration changes nothing of what is said: a remark, another numeral of the same value, a
