@@ -4,6 +4,7 @@ import html.parser
 import inspect
 import os
 import pathlib
+import re
 import subprocess
 import sys
 import tempfile
