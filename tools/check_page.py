@@ -1,11 +1,12 @@
 #!/usr/bin/env python3
 """Checks whether the page of a decision says what its own case implies. For a reviewer who trusts no program.
 
-    tools/check_page.py PAGE [EVIDENCE]
+    tools/check_page.py PAGE [EVIDENCE] [--case CASE]
 
-PAGE is a file that report.py, `Graph.report` or `graph_report` has written, and EVIDENCE the document whose digest it has. The script
-shares no code with `welungad` nor with what makes pages, and needs Python 3.9 or later alone. From the case in its one spelling, which
-is on the page, it computes anew what the page has to say, and compares
+PAGE is a file that report.py, `Graph.report` or `graph_report` has written, and EVIDENCE the document whose digest it has. CASE is your
+own case, a text as in docs/FORMATS.md: the page has to be about it. The script shares no code with `welungad` nor with what makes
+pages, and needs Python 3.9 or later alone. From the case in its one spelling, which is on the page, it computes anew what the page has
+to say, and compares
 
 - the headline, the digests, the tables of the decision, of the graph, of looks, of intersections and of bounds;
 - each picture, element by element, by check_pictures.py: circles, arrows and texts with their places, sizes and colours;
@@ -850,7 +851,7 @@ class Wanted:
         options = "".join(" " + shlex.quote(word) for word in self.options)
         yield ("h3", "To repeat it")
         yield ("p", "The first line reads a file with the case as it was given, which is above. If you have only the case in its one spelling, call it "
-               "case.txt, and leave out the first line.")
+               "case.txt, and leave out the first line. The file report.txt then has to be what the program printed, above.")
         yield ("lines", "\n".join([f"welungad canon{options} < {shlex.quote(self.file)} > case.txt", "sha256sum case.txt",
                                    f"welungad {test}{priority} < case.txt > report.txt"]))
         made, script = [], self.words["script"]
@@ -866,9 +867,13 @@ class Wanted:
         if len(self.names) <= MOST_CLOSED:
             made.append(f"{script('closed_test')} case.txt" + ("" if self.case.staging else " --adjusted --bounds"))
         if made:
-            yield from [("h3", "To check it"), ("lines", "\n".join(made))]
-        yield ("p", "And whether this page says what its own case implies, for PAGE.html the file of the page:")
-        yield ("lines", f"{script('check_page')} PAGE.html")
+            yield ("h3", "To check it")
+            if not self.case.staging:
+                yield ("p", "If you were given evidence.txt, leave out the line that writes it. Its digest has to be the one above, and both checkers have to "
+                       "answer as above.")
+            yield ("lines", "\n".join(made))
+        yield ("p", "And whether this page says what its own case implies, and whether that is your case, for PAGE.html the file of the page:")
+        yield ("lines", f"{script('check_page')} PAGE.html --case case.txt")
 
     def scripts(self):
         """The release and the digests of the scripts: they have to be those of the scripts that are here."""
@@ -991,7 +996,7 @@ def refused_differences(page, line):
         yield "the sheets: on paper they do not have the digest of the text"
 
 
-def check_refused(page):
+def check_refused(page, case=None):
     """The status and the answer on a page about a case that is refused: whether these scripts refuse it with the same line."""
     lists = [it[1] for parts in page.sections.values() for it in parts if it[0] == "list"]
     line = re.fullmatch(r"(.*) \(status ([0-9]+) of ([a-z]+)\)", lists[0][1]) if lists else None
@@ -1001,6 +1006,8 @@ def check_refused(page):
     if found:
         return 1, "no:\n" + "".join(f"  {it}\n" for it in found)
     given = page.part("The case as it was given", "lines")[1] + "\n"
+    if case is not None and case.decode("utf-8", "replace") not in (given, given[:-1]):
+        return 1, "no:\n  the case: the page is about another text than yours\n"
     options = shlex.split([it[1] for it in page.sections["The program"] if it[0] == "lines"][-1])
     form = options[options.index("--form") + 1] if "--form" in options else "text"
     alpha = options[options.index("--alpha") + 1] if "--alpha" in options else None
@@ -1016,15 +1023,17 @@ def check_refused(page):
     return 0, f"yes\nrefused {line[1]}\nnot checked: {REFUSED_UNCHECKED}\nend\n"
 
 
-def answer(text, evidence=None):
+def answer(text, evidence=None, case=None):
     """The status and the text that the script ends with."""
     page = Page(text)
     if page.answer is None:
         raise NotAPage("it has no headline")
     if page.is_refused:
-        return check_refused(page)
+        return check_refused(page, case)
     canonical, report = page.part("case", "lines")[1], page.part("report", "lines")[1]
     try:
+        if case is not None and not same_case(staged_case_of(case), staged_case_of(canonical.encode())):
+            return 1, "no:\n  the case: the page is about another one than yours\n"
         decision = Decision(canonical, report)
         wanted = Wanted(page, decision, *words_of(page))
         if evidence is not None and not decision.staged:
@@ -1034,25 +1043,28 @@ def answer(text, evidence=None):
                 return 1, f"no:\n  the evidence: {said}"
         found = [*differences(page, wanted)]
     except Stop as stop:
-        return 1, f"no:\n  the case in its one spelling is refused: {stop.args[1]}"
+        return 1, f"no:\n  the case in its one spelling, or yours, is refused: {stop.args[1]}"
     except (ValueError, NotAPage) as error:
         return 1, f"no:\n  {error}\n"
     if found:
         return 1, "no:\n" + "".join(f"  {it}\n" for it in found)
     rejected = " ".join(["rejected", *decision.names_rejected])
+    digest = hashlib.sha256(canonical.encode()).hexdigest()
+    other = [f"whether the case is yours, since --case was left out; its SHA-256 digest is {digest}"] if case is None else []
     own = [OWN_LABELS] if wanted.labels != wanted.names else []
-    skipped = "".join(f"not checked: {it}\n" for it in dict.fromkeys([*UNCHECKED, *own, *wanted.skipped]))
+    skipped = "".join(f"not checked: {it}\n" for it in dict.fromkeys([*other, *UNCHECKED, *own, *wanted.skipped]))
     return 0, f"yes\n{rejected}\n{skipped}end\n"
 
 
 def main():
-    parser = argparse.ArgumentParser(usage="check_page.py PAGE [EVIDENCE]", description=__doc__, formatter_class=argparse.RawDescriptionHelpFormatter)
+    parser = argparse.ArgumentParser(usage="check_page.py PAGE [EVIDENCE] [--case CASE]", description=__doc__, formatter_class=argparse.RawDescriptionHelpFormatter)
     parser.add_argument("page", type=argparse.FileType("rb"))
     parser.add_argument("evidence", type=argparse.FileType("rb"), nargs="?")
+    parser.add_argument("--case", type=argparse.FileType("rb"), help="your own case, in any spelling of a text")
     words = parser.parse_args()
     getattr(sys, "set_int_max_str_digits", int)(0)  # else Python prints no number of more than 4,300 digits
     try:
-        status, text = answer(words.page.read().decode("utf-8"), words.evidence and words.evidence.read())
+        status, text = answer(words.page.read().decode("utf-8"), words.evidence and words.evidence.read(), words.case and words.case.read())
     except (NotAPage, UnicodeDecodeError, StopIteration) as error:
         status, text = 2, f"not a page of a decision: {error}\n"
     sys.stdout.write(text)

@@ -120,9 +120,12 @@ class Pages(unittest.TestCase):
     def test_yes(self):
         """Whether the answer on a page is yes, with what is rejected and what was not checked, and with the evidence whose digest it has."""
         unchecked = [*check_page.UNCHECKED, check_page.UNSTATED_ORIGIN]
-        wanted = "yes\nrejected H1\n" + "".join(f"not checked: {it}\n" for it in unchecked) + "end\n"
-        self.assertEqual(check_page.answer(self.page), (0, wanted))
-        self.assertEqual(check_page.answer(self.page, EVIDENCE.encode()), (0, wanted))
+        wanted = "".join(f"not checked: {it}\n" for it in unchecked) + "end\n"
+        first = f"not checked: whether the case is yours, since --case was left out; its SHA-256 digest is {hashlib.sha256(CANON.encode()).hexdigest()}\n"
+        for evidence in (None, EVIDENCE.encode()):
+            self.assertEqual(check_page.answer(self.page, evidence), (0, f"yes\nrejected H1\n{first}{wanted}"))
+            for case in (CANON, CASE):
+                self.assertEqual(check_page.answer(self.page, evidence, case.encode()), (0, f"yes\nrejected H1\n{wanted}"))
         for how in ({"labels": ["high <dose>", "a dose that is low: 5 mg or less"]}, {"labels": ["\u05de\u05d9\u05e0\u05d5\u05df", "\u202eA"]},
                     {"title": "</style> \"T\" \\ <b>"}, {"program": ()}, {"file": "a b's.txt"}):
             with self.subTest(how):
@@ -194,7 +197,8 @@ class Pages(unittest.TestCase):
                 check_page.answer(self.page.replace(old, new))
             page = page.replace(old, new)
         status, text = check_page.answer(page)
-        self.assertEqual((status, text.split("\n")[2]), (0, "not checked: the title, above the page and on each sheet, which the case does not have"))
+        self.assertEqual(status, 0)
+        self.assertIn("\nnot checked: the title, above the page and on each sheet, which the case does not have\n", text)
 
     def test_labels(self):
         """Whether labels are among what was not checked if they are other names than those of the case, and only then; and whether labels that
@@ -248,11 +252,21 @@ class Pages(unittest.TestCase):
             self.assertEqual(status, 1)
             self.assertIn(words, text)
 
+    def test_another_case(self):
+        """Whether a page about another case than the reviewer's is refused, and names the case."""
+        for old, new, said in [("13/500", "27/1000", "another one than yours"), ("H2", "H3", "another one than yours"),
+                               ("1/2\n", "1/2\nedge H1 H2 1\n", "another one than yours"), ("weights", "weigths", "refused: malformed: line 4: unexpected")]:
+            self.assertIn(old, CANON)
+            status, text = check_page.answer(self.page, None, CANON.replace(old, new).encode())
+            self.assertEqual((status, said in text), (1, True), text)
+
     def test_refused_cases(self):
         """Whether the page of a refused case is compared with the refusal of the scripts."""
         bad = CASE.replace("0.025", "2.5%")
         page = document(bad, answering(canon=(3, "malformed: line 4: number\n")))[1]
         self.assertEqual(check_page.answer(page), (0, f"yes\nrefused malformed: line 4: number\nnot checked: {check_page.REFUSED_UNCHECKED}\nend\n"))
+        for case, status in ((bad, 0), (bad.strip(), 0), (CASE, 1)):
+            self.assertEqual(check_page.answer(page, None, case.encode())[0], status)
         page = document(CASE, answering(canon=(3, "malformed: line 4: number\n")))[1]
         self.assertEqual(check_page.answer(page)[0], 1)
         page = document(CASE, answering(test=(5, "too wide: step 3: component 1 weight of H4 mul\n")))[1]

@@ -486,7 +486,7 @@ def commands(findings: Findings, checks: Checks, file: str, words: Sequence[str]
     parts = [
         "<h3>To repeat it</h3>",
         "<p>The first line reads a file with the case as it was given, which is above. If you have only the case in its one spelling, call it "
-        "<code>case.txt</code>, and leave out the first line.</p>",
+        "<code>case.txt</code>, and leave out the first line. The file <code>report.txt</code> then has to be what the program printed, above.</p>",
         "<pre>" + escape("\n".join(repeat)) + "</pre>",
     ]
     made = []
@@ -500,9 +500,13 @@ def commands(findings: Findings, checks: Checks, file: str, words: Sequence[str]
     if len(findings.names) <= 12:
         made.append(f"{script_words('closed_test')} case.txt" + ("" if findings.is_staged else " --adjusted --bounds"))
     if made:
-        parts += ["<h3>To check it</h3>", "<pre>" + escape("\n".join(made)) + "</pre>"]
-    return [*parts, "<p>And whether this page says what its own case implies, for PAGE.html the file of the page:</p>",
-            "<pre>" + escape(f"{script_words('check_page')} PAGE.html") + "</pre>"]
+        parts.append("<h3>To check it</h3>")
+        if not findings.is_staged:
+            parts.append("<p>If you were given <code>evidence.txt</code>, leave out the line that writes it. Its digest has to be the one above, and both checkers have to answer "
+                         "as above.</p>")
+        parts.append("<pre>" + escape("\n".join(made)) + "</pre>")
+    return [*parts, "<p>And whether this page says what its own case implies, and whether that is your case, for PAGE.html the file of the page:</p>",
+            "<pre>" + escape(f"{script_words('check_page')} PAGE.html --case case.txt") + "</pre>"]
 
 
 def script_table() -> str:
