@@ -376,12 +376,23 @@ class Checker(unittest.TestCase):
                 done = subprocess.run(["sh", "-c", shell + 'exec "$@"', "sh", *script], capture_output=True, text=True)
                 self.assertEqual((done.returncode, done.stdout), wanted, done.stderr)
 
+    def test_help(self):
+        """Whether each script for reviewers that is a command says what it is for, what it reads, and what it prints."""
+        for name, purpose, reads in [("check_evidence", "Checks whether a document is evidence", "CASE and EVIDENCE are files"),
+                                     ("closed_test", "Decides a graphical test by its definition", "CASE is a file"),
+                                     ("make_evidence", "Makes evidence for the decision", "CASE is a text"),
+                                     ("check_page", "Checks whether the page of a decision", "PAGE is a file")]:
+            done = subprocess.run([sys.executable, os.path.join(TOOLS, f"{name}.py"), "--help"], capture_output=True, text=True)
+            self.assertEqual((done.returncode, done.stderr), (0, ""))
+            for text in (purpose, reads, "status", "shares no"):
+                self.assertIn(text, " ".join(done.stdout.split()), name)
+
     def test_length(self):
         """Whether the scripts for reviewers are short."""
         self.assertLessEqual(content("tools", "check_evidence.py").count("\n"), 410)
         self.assertLessEqual(content("tools", "closed_test.py").count("\n"), 210)
         self.assertLessEqual(content("tools", "staged_case.py").count("\n"), 160)
-        self.assertLessEqual(content("tools", "make_evidence.py").count("\n"), 250)
+        self.assertLessEqual(content("tools", "make_evidence.py").count("\n"), 252)
 
 
 class ClosedTest(unittest.TestCase):
