@@ -73,7 +73,7 @@ UNCHECKED = (
     "the title, above the page and on each sheet, which the case does not have",
     "the protocol, the data cut and the author, the name of the file, and the priority in the commands",
     "of the text that was given, what changes nothing of the case",
-    "which proved calls made the evidence and the edges of the pictures; in the pictures, tenths of a pixel",
+    "which proved calls made the evidence and the edges of the pictures",
     "the scripts, this one too: their digests on the page are compared with the files beside this one",
 )
 OWN_LABELS = "the labels, which are other names than those of the case; the table after the case has both"
