@@ -874,6 +874,8 @@ class Wanted:
             yield ("lines", "\n".join(made))
         yield ("p", "And whether this page says what its own case implies, and whether that is your case, for PAGE.html the file of the page:")
         yield ("lines", f"{script('check_page')} PAGE.html --case case.txt")
+        yield ("p", "What to look at before a decision is signed is in ARCHIVE.md: in the folder docs of the repository, in share/welungad/docs of an "
+               "installation, and in the folder of the Python package.")
 
     def scripts(self):
         """The release and the digests of the scripts: they have to be those of the scripts that are here."""
