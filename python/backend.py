@@ -4,8 +4,8 @@
 
 A wheel has the library and the program of the checkout or of the installation that this folder lies in, or those that
 WELUNGAD_LIBRARY and WELUNGAD name, if they are those that their stamps name; without one of them there is no wheel. It also has the
-reviewers' scripts, which are those of the folder tools beside this one, the page of refusals, and the examples, by which an
-installation is tested.
+reviewers' scripts, which are those of the folder tools beside this one, the page of refusals, the one for reviewers (ARCHIVE), and the
+examples, by which an installation is tested.
 
 setuptools below 70.1 cannot write a wheel without the package `wheel`, which no environment has by itself, and below 77 it cannot read
 the expression of a licence. Nothing is written to this folder, which may be one that only its owner writes.
@@ -183,10 +183,10 @@ def _origin(path: str) -> List[str]:
 
 
 def _add_texts(package: str) -> None:
-    """Copies the reviewers' scripts, the page of refusals and the examples into the package, if they are there."""
+    """Copies the reviewers' scripts, the pages of refusals and for reviewers, and the examples into the package, if they are there."""
     top = os.path.dirname(_HERE)
     copies = {f"reviewer/{name}.py": os.path.join(top, "tools", f"{name}.py") for name in _SCRIPTS}
-    copies["REFUSALS.md"] = os.path.join(top, "docs", "REFUSALS.md")
+    copies.update({name: os.path.join(top, "docs", name) for name in ("REFUSALS.md", "ARCHIVE.md")})
     with contextlib.suppress(FileNotFoundError):
         copies.update({f"examples/{name}": os.path.join(top, "examples", name) for name in sorted(os.listdir(os.path.join(top, "examples")))})
     for place, path in copies.items():

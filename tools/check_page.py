@@ -73,7 +73,7 @@ UNCHECKED = (
     "the title, above the page and on each sheet, which the case does not have",
     "the protocol, the data cut and the author, the name of the file, and the priority in the commands",
     "of the text that was given, what changes nothing of the case",
-    "which proved calls made the evidence and the edges of the pictures; in the pictures, tenths of a pixel",
+    "which proved calls made the evidence and the edges of the pictures",
     "the scripts, this one too: their digests on the page are compared with the files beside this one",
 )
 OWN_LABELS = "the labels, which are other names than those of the case; the table after the case has both"
@@ -874,6 +874,8 @@ class Wanted:
             yield ("lines", "\n".join(made))
         yield ("p", "And whether this page says what its own case implies, and whether that is your case, for PAGE.html the file of the page:")
         yield ("lines", f"{script('check_page')} PAGE.html --case case.txt")
+        yield ("p", "What to look at before a decision is signed is in ARCHIVE.md: in the folder docs of the repository, in share/welungad/docs of an "
+               "installation, and in the folder of the Python package.")
 
     def scripts(self):
         """The release and the digests of the scripts: they have to be those of the scripts that are here."""

@@ -3,7 +3,7 @@
 A picture has, in this order: heads of arrows and paper; an arrow for each edge; the texts of the edges, each on a white ground; the
 hypotheses; and the lines below. A hypothesis is a circle with its tag, its weight in each graph and its p-value. A rejected one is
 filled, and has the number of its step on its rim. Points are complex numbers, whose imaginary part grows downwards. Numbers on a page
-are rounded, so those that differ by no more than that are taken for equal.
+are rounded to a tenth, and those of its frame to whole ones: each has to be within half a unit of the exact one.
 """
 import cmath
 import math
@@ -12,13 +12,19 @@ from itertools import zip_longest
 
 COLOURS = ["#1f4e9e", "#b3541e", "#2e7d32", "#7b1fa2", "#00838f", "#8d6e00", "#ad1457", "#455a64"]  # of the graphs
 RADIUS, GAP, HIGH, INK = 40, 200, 215, "#111"
-NUMBER = re.compile(r"-?\d+(?:\.\d)?")
+NUMBER = re.compile(r"-?\d+(?:\.\d+)?")
 
 
-def same_but_rounded(found, wanted):
-    """Whether two texts differ in numbers alone, and in these by a tenth at most."""
-    pairs = zip_longest(NUMBER.findall(found), NUMBER.findall(wanted), fillvalue="inf")
-    return NUMBER.sub("", found) == NUMBER.sub("", wanted) and all(abs(float(x) - float(y)) < 0.15 for x, y in pairs)
+def is_rounded(found, exact, places):
+    """Whether a text is another one whose numbers are rounded to so many places. A number at the middle of two may be either of them."""
+    def fits(x, y):
+        return x == y or (len(x.partition(".")[2]) == places and abs(float(x) - float(y)) < 0.5 / 10**places + 1e-6)
+    pairs = zip_longest(NUMBER.findall(found), NUMBER.findall(exact), fillvalue="inf")
+    return NUMBER.sub("", found) == NUMBER.sub("", exact) and all(fits(x, y) for x, y in pairs)
+
+
+def rounded(exact, places):
+    return NUMBER.sub(lambda it: f"{float(it[0]):.{places}f}" if "." in it[0] else it[0], exact)
 
 
 # ---- where the circles are
@@ -107,7 +113,7 @@ class Picture:
 
     def curves(self, prefix):
         for (_, _, graph, _), arrow in zip(self.edges, self.arrows):
-            start, middle, end = (f"{z.real:.1f},{z.imag:.1f}" for z in arrow.points)
+            start, middle, end = (f"{z.real:.9f},{z.imag:.9f}" for z in arrow.points)
             yield (f'path d="M{start} Q{middle} {end}" fill="none" stroke="{COLOURS[graph % 8]}" stroke-width="1.6" '
                    f'marker-end="url(#{prefix}head{graph % 8})"'), ""
 
@@ -122,12 +128,12 @@ class Picture:
             place = next((z for z in best if any(abs(z + 5j - it) < 0.3 for it in shown)), best[0])
             taken.append(place)
             wide = 8.2 * len(text) + 6
-            yield f'rect x="{place.real - wide / 2:.1f}" y="{place.imag - 10:.1f}" width="{wide:.1f}" height="19" rx="4" fill="#fff"', ""
+            yield f'rect x="{place.real - wide / 2:.9f}" y="{place.imag - 10:.9f}" width="{wide:.9f}" height="19" rx="4" fill="#fff"', ""
             yield text_at(place + 5j, 14, COLOURS[graph % 8]), text
 
     def hypothesis(self, k):
         z, tag = self.centre[k], self.tags[k]
-        yield f'circle cx="{z.real:.1f}" cy="{z.imag:.1f}" r="{RADIUS}" fill="{"#cfe3cf" if k in self.steps else "#fff"}" stroke="{INK}" stroke-width="1.6"', ""
+        yield f'circle cx="{z.real:.9f}" cy="{z.imag:.9f}" r="{RADIUS}" fill="{"#cfe3cf" if k in self.steps else "#fff"}" stroke="{INK}" stroke-width="1.6"', ""
         yield text_at(z - 11j, min(16, 2 * RADIUS / (0.7 * max(len(tag), 4))), weight="bold"), tag
         several, weights = len(self.weights) > 1, [(graph, texts[k]) for graph, texts in enumerate(self.weights) if k in texts]
         wide = 1.5 * RADIUS / max(1, len(weights))
@@ -138,7 +144,7 @@ class Picture:
             yield text_at(z + 24j, min(12, 2 * RADIUS / (0.72 * len(self.p[k]))), "#333"), self.p[k]
         if k in self.steps:
             z += RADIUS * self.outwards(z)
-            yield f'circle cx="{z.real:.1f}" cy="{z.imag:.1f}" r="11" fill="#2e6b34"', ""
+            yield f'circle cx="{z.real:.9f}" cy="{z.imag:.9f}" r="11" fill="#2e6b34"', ""
             yield text_at(z + 4.5j, 13, "#fff", weight="bold"), str(self.steps[k])
 
     def outwards(self, z):
@@ -148,16 +154,20 @@ class Picture:
         return away / (abs(away) or 1)
 
     def elements(self, prefix, found):
-        """The elements that the picture has to have. Where those that are found differ by rounding alone, they are taken."""
-        box = f'{self.left:.0f} {self.top:.0f} {self.right - self.left:.0f} {self.bottom - self.top:.0f}'
-        first = self.bottom - 20 * len(self.lines)
+        """The elements that the picture has to have. Where those that are found are these but for rounding, they are taken."""
         shown = [complex(*map(float, NUMBER.findall(it[0])[:2])) for it in found if it[0].startswith("text ")]
+        left, top, wide, high = (f"{x:.9f}" for x in (self.left, self.top, self.right - self.left, self.bottom - self.top))
+        first = self.bottom - 20 * len(self.lines)
         below = [(text_at(complex(self.left + 16, first + 20 * n), 14, colour, "start"), text) for n, (colour, text) in enumerate(self.lines)]
-        wanted = [*self.heads(prefix), (f'rect x="{self.left:.0f}" y="{self.top:.0f}" width="100%" height="100%" fill="#fff"', ""), *self.curves(prefix),
-                  *self.edge_texts(shown), *(it for k in range(len(self.tags)) for it in self.hypothesis(k)), *below]
-        wanted = [(f'viewBox="{box}" width="{self.right - self.left:.0f}" height="{self.bottom - self.top:.0f}"', ""), *wanted]
-        return [(one[0] if one and same_but_rounded(one[0], other[0]) else other[0], other[1]) for one, other in zip_longest(found[: len(wanted)], wanted)]
+        frame, paper = f'viewBox="{left} {top} {wide} {high}" width="{wide}" height="{high}"', f'rect x="{left}" y="{top}" width="100%" height="100%" fill="#fff"'
+        wanted = [(frame, ""), *self.heads(prefix), (paper, ""), *self.curves(prefix), *self.edge_texts(shown),
+                  *(it for k in range(len(self.tags)) for it in self.hypothesis(k)), *below]
+        elements = []
+        for one, (exact, text) in zip_longest(found[: len(wanted)], wanted):
+            places = int(exact not in (frame, paper))
+            elements.append((one[0] if one and is_rounded(one[0], exact, places) else rounded(exact, places), text))
+        return elements
 
 
 def text_at(z, size, colour=INK, anchor="middle", weight="normal"):
-    return f'text x="{z.real:.1f}" y="{z.imag:.1f}" font-size="{size:.1f}" fill="{colour}" text-anchor="{anchor}" font-weight="{weight}"'
+    return f'text x="{z.real:.9f}" y="{z.imag:.9f}" font-size="{size:.9f}" fill="{colour}" text-anchor="{anchor}" font-weight="{weight}"'

@@ -211,7 +211,7 @@ class Scripts(test_library.Rooms):
         for line in "\n".join(blocks).split("\n"):
             done = subprocess.run(["sh", "-c", line], cwd=self.room, env={**kept, "PATH": f"{path}:{os.environ['PATH']}"}, stdout=subprocess.PIPE,
                                   stderr=subprocess.PIPE, check=False)
-            self.assertEqual((done.returncode, done.stderr), (0, b""), line)
+            self.assertEqual((done.returncode, done.stderr), (0, b""), (line, done.stdout))
             said += done.stdout.decode()
         self.assertEqual(said.count("yes\nlisted A\nkept B\nend\n"), 2)
         self.assertIn("\nrejected A\n", said)

@@ -87,7 +87,7 @@ class Wheels(unittest.TestCase):
         wanted |= {f"welungad/reviewer/{it}.py" for it in ("check_evidence", "check_page", "check_pictures", "closed_test", "make_evidence", "qualify",
                                                              "staged_case")}
         wanted |= {f"welungad/examples/{it}" for it in os.listdir(places.EXAMPLES)}
-        wanted |= {"welungad/py.typed", "welungad/REFUSALS.md"}
+        wanted |= {"welungad/py.typed", "welungad/REFUSALS.md", "welungad/ARCHIVE.md"}
         wanted |= {f"{information}/licenses/{it}" for it in ("LICENSE", "LICENSE-MIT", "LICENSE-APACHE")}
         self.assertEqual(wanted - set(names), set())
 

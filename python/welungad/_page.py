@@ -506,7 +506,9 @@ def commands(findings: Findings, checks: Checks, file: str, words: Sequence[str]
                          "as above.</p>")
         parts.append("<pre>" + escape("\n".join(made)) + "</pre>")
     return [*parts, "<p>And whether this page says what its own case implies, and whether that is your case, for PAGE.html the file of the page:</p>",
-            "<pre>" + escape(f"{script_words('check_page')} PAGE.html --case case.txt") + "</pre>"]
+            "<pre>" + escape(f"{script_words('check_page')} PAGE.html --case case.txt") + "</pre>",
+            "<p>What to look at before a decision is signed is in <code>ARCHIVE.md</code>: in the folder <code>docs</code> of the repository, in "
+            "<code>share/welungad/docs</code> of an installation, and in the folder of the Python package.</p>"]
 
 
 def script_table() -> str:
