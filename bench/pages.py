@@ -5,10 +5,16 @@
 
 Of each of N cases the page has to be one to which check_page.py says yes. The cases are those of checkers.py: texts, sheets and JSON, with
 epsilon, several graphs or stages; some have labels, some another priority. Half of the pages are by the C library, if there is one, and
-the others by the program. Of M pages a copy is altered, and then the answer has to be
-no: one number, one word, one row of a table, the headline, or a digit of a digest is another one. What the case does not imply is not
-altered: the title, the lines to fill in, and what the program was built from. In the text that was given, an alteration that leaves the case
-the same is counted apart.
+the others by the program. Of M pages a copy is altered, and then the answer has to be no, or that it is not a page:
+
+- one number, one word, one row of a table, the headline, or a digit of a digest is another one;
+- of a picture an arrow is missing, a circle has the other colour, two texts or two circles have each other's place, an element is elsewhere,
+  or a part is cut off;
+- the form is another one: something before or after the page, hidden, struck through, linked, marked, or added to the style.
+
+In the text that was given, an alteration that leaves the case the same is counted apart. What no case implies is altered on copies of the
+other pages: a digit of the protocol, the data cut or the author, or of what is said of the program. Then the answer has to name it as not
+checked, or be no.
 
 Prints what came how often and each page that is answered otherwise, and ends with status 1 if there is one.
 """
@@ -30,10 +36,25 @@ import check_page  # noqa: E402
 from welungad import _calls, _page, _scripts  # noqa: E402
 from welungad._refusals import BadAnswer  # noqa: E402
 
-KINDS = ("number", "word", "row", "headline", "digest")
+KINDS = ("number", "word", "row", "headline", "digest", "picture", "form")
 LABELS = ["Primary", "Mortality at five years in all patients", "B", "HbA1c, 5 mg", "HbA1c, 10 mg against placebo at week 26", "Safety <1>", "Z"]
 OTHER_WORDS = ["not", "rejected", "above", "at", "kept", "none", "yes", "no", "H1", "H2", "each", "half"]
+FACTS = _page.Facts("Protocol 2026/85", "2026-06-30", None)
 TEXT = re.compile(r"(?<=>)[^<]+")
+# What no case implies, and the beginning of the line by which the answer names it.
+STATED = [(re.compile('<dl class="facts">.*?</dl>', re.DOTALL), "not checked: the protocol, the data cut and the author"),
+          (re.compile("<dt>Release of the C library</dt><dd>.*?</dd>", re.DOTALL), "not checked: which program or library answered"),
+          (re.compile("<dt>What it was built from</dt><dd>.*?</dd>", re.DOTALL), "not checked: which program or library answered")]
+# How the form of a page is altered: a pattern that is found once or more, and what it becomes at one place.
+FORMS = [
+    ("<main>", "<p>No hypothesis is rejected.</p>\n<main>"), ("</main>", "</main>\n<p>No hypothesis is rejected.</p>"), ("</html>\n", "</html>\nNo\n"),
+    ("</style>", "main { display: none }</style>"), ("</style>", "td::after { content: ' not' }</style>"), ("</style>", ".answer { color: #fff }</style>"),
+    ("</head>", '<meta http-equiv="refresh" content="0; url=a">\n</head>'), ("</head>", '<link rel="stylesheet" href="a.css">\n</head>'),
+    ("<(p|td|tr|h2|table|figure|text)>", r"<\1 hidden>"), ("<(p|td|tr|h2|table|figure|text)([ >])", r'<\1 style="display:none"\2'),
+    ("<(p|td|tr|h2|th)([ >])", r'<\1 title="not rejected"\2'), ("<(td|strong)>([^<]+)", r"<\1><s>\2</s>"), ("<td>([^<]+)", r'<td><a href="https://a.b">\1</a>'),
+    ("<(td|strong)>([^<]+)", r"<\1><mark>\2</mark>"), ("<h2", "<script>a()</script>\n<h2"), ("<h2", "<!-- a -->\n<h2"), ("<h2", "No hypothesis is rejected.\n<h2"),
+    ("<h2", "<details><summary>More</summary><pre>not rejected</pre></details>\n<h2"), ('<tr class="rejected">', "<tr>"), ("<tr>", '<tr class="rejected">'),
+]
 
 
 class Case:
@@ -50,25 +71,81 @@ class Case:
 
     def page(self, program):
         calls, about = _scripts._calls(None if self.by_library else program)
-        return _page.document(self.made.bytes(), calls, program=about, **self.how)
+        return _page.document(self.made.bytes(), calls, program=about, facts=FACTS, **self.how)
+
+
+def stated(page):
+    """What no case implies: the places of each such part of a page, and how the answer names it."""
+    return [(found.start(), found.end(), named) for pattern, named in STATED for found in pattern.finditer(page)]
 
 
 def regions(page):
-    """The places of the texts of a page that its case implies: after the headline, but for the contents of what a program was built from."""
-    begin = page.index('<p class="answer">')
-    told = page.find("<dt>What it was built from</dt>")
-    end = page.index("</dd>", told) if told > 0 else told
-    facts = (page.index('<dl class="facts">'), page.index("<nav"))
+    """The places of the texts of a page that its case implies: after the headline, but for what no case implies."""
+    begin, others = page.index('<p class="answer">'), stated(page)
     return [found for found in TEXT.finditer(page, begin, page.index("</footer>"))
-            if found[0].strip() and not (told <= found.start() < end) and not (facts[0] <= found.start() < facts[1])]
+            if found[0].strip() and not any(start <= found.start() < end for start, end, _ in others)]
 
 
 def another(rng, text, choices):
     return rng.choice([it for it in choices if it != text])
 
 
+def exchanged(page, one, other):
+    """The page in which the texts of two matches have each other's place."""
+    one, other = sorted((one, other), key=lambda it: it.start())
+    return page[: one.start()] + other[0] + page[one.end(): other.start()] + one[0] + page[other.end():]
+
+
+def altered_picture(rng, page):
+    """The page with one alteration of a picture, and what was altered; nothing if it has no picture."""
+    pictures = [found.span() for found in re.finditer("<svg .*?</svg>", page, re.DOTALL)]
+    if not pictures:
+        return None
+
+    def all_of(pattern, place):
+        return [*re.compile(pattern).finditer(page, *place)]
+
+    while True:
+        what, place = rng.choice(["arrow", "colour", "texts", "circles", "place", "cut"]), rng.choice(pictures)
+        found = all_of({"arrow": "<path [^>]*marker-end[^>]*/>\n", "colour": '(?<=r="40" fill=")#[a-f0-9]+', "texts": "(?<=>)[^<\n]+(?=</text>)",
+                        "circles": '(?<=<circle )cx="[^"]*" cy="[^"]*"(?= r="40")', "place": r'(?<=[" ,MQ])-?\d+\.\d(?=[" ,])',
+                        "cut": r'(?<=viewBox=")\S+ \S+ \S+ \S+(?=" width)'}[what], place)
+        if not found:
+            continue
+        it = rng.choice(found)
+        before, after = page[: it.start()], page[it.end():]
+        if what in ("texts", "circles"):
+            others = [other for other in found if other[0] != it[0]]
+            if others:
+                other = rng.choice(others)
+                return exchanged(page, it, other), f"{it[0]!r} and {other[0]!r} are exchanged"
+        else:
+            new = {"arrow": "", "colour": "#fff" if it[0] != "#fff" else "#cfe3cf", "place": "", "cut": ""}[what]
+            if what == "place":
+                new = f"{float(it[0]) + rng.choice([-150, -20, -1, 1, 20, 150]):.1f}"
+            if what == "cut":
+                numbers, n = it[0].split(" "), rng.randrange(4)
+                numbers[n] = str(int(numbers[n]) // 2 if n > 1 else int(numbers[n]) + 60)
+                new = " ".join(numbers)
+            return before + new + after, f"of a picture, {it[0]!r} is {new!r}"
+
+
+def altered_form(rng, page):
+    """The page with another form at one place, and what was altered."""
+    while True:
+        pattern, new = rng.choice(FORMS)
+        found = [*re.finditer(pattern, page)]
+        if found:
+            it = rng.choice(found)
+            return page[: it.start()] + it.expand(new) + page[it.end():], f"{it[0]!r} is {it.expand(new)!r}"
+
+
 def altered(rng, page, kind):
     """The page with one alteration of a kind, and what was altered."""
+    if kind == "picture":
+        return altered_picture(rng, page) or altered_form(rng, page)
+    if kind == "form":
+        return altered_form(rng, page)
     if kind == "row":
         rows = [found for found in re.finditer(r"<tr(?: class=\"rejected\")?><th scope=\"row\">.*?</tr>\n?", page, re.DOTALL)]
         row = rng.choice(rows)
@@ -98,6 +175,26 @@ def is_given(page, other):
     return cut.sub(r"\1\2", page) == cut.sub(r"\1\2", other)
 
 
+def said_of(page):
+    """The status and the answer on what may be a page."""
+    try:
+        return check_page.answer(page)
+    except check_page.NotAPage as error:
+        return 2, str(error)
+
+
+def stated_otherwise(rng, page):
+    """What is said of a page of which a digit of what no case implies is another one."""
+    start, end, named = rng.choice(stated(page))
+    found = [*re.compile("[0-9]").finditer(page, start, end)]
+    if not found:
+        return []
+    at = rng.choice(found).start()
+    status, said = said_of(page[:at] + another(rng, page[at], "0123456789") + page[at + 1:])
+    right = status == 1 or f"\n{named}" in said
+    return [(f"what no case implies: {'WRONG' if not right else 'no' if status else 'named as not checked'}", None if right else f"{page[at - 40 : at + 40]}\n{said}")]
+
+
 def try_one(task):
     """Returns what is said of the page of a number and of an altered copy, with the page if that is wrong."""
     seed, number, program, alters = task
@@ -115,14 +212,13 @@ def try_one(task):
     if alters:
         kind = KINDS[number % len(KINDS)]
         other, what = altered(case.rng, page, kind)
-        try:
-            said = check_page.answer(other)
-        except check_page.NotAPage as error:
-            said = (2, str(error))
+        said = said_of(other)
         if said[0] == 0 and is_given(page, other):
             found.append((f"altered, {kind}: the same case in the text that was given", None))
         else:
             found.append((f"altered, {kind}: {'no' if said[0] else 'WRONG'}", None if said[0] else f"{what}\n{case.made.bytes().decode()}"))
+    else:
+        found += stated_otherwise(case.rng, page)
     return found
 
 

@@ -34,7 +34,7 @@ _LICENCES = ("LICENSE", "LICENSE-MIT", "LICENSE-APACHE")
 _LEAST, _READS_EXPRESSIONS = 61, 77
 _LIBRARY = "libwelungad.so"
 # The reviewers' scripts that a wheel has, as far as they are there.
-_SCRIPTS = ("check_evidence", "make_evidence", "closed_test", "staged_case", "check_page", "qualify")
+_SCRIPTS = ("check_evidence", "make_evidence", "closed_test", "staged_case", "check_page", "check_pictures", "qualify")
 _LEAST_GLIBC = 17
 _LONG_AGO = (1980, 1, 1, 0, 0, 0)
 

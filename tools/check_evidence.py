@@ -28,7 +28,7 @@ import io
 import json
 import re
 import sys
-from argparse import ArgumentParser, FileType, Namespace
+from argparse import ArgumentParser, FileType, Namespace, RawDescriptionHelpFormatter
 from fractions import Fraction
 from functools import reduce
 from itertools import accumulate, product, zip_longest
@@ -393,13 +393,15 @@ def answer(case, evidence, form="text", alpha=None):
 
 if __name__ == "__main__":
     getattr(sys, "set_int_max_str_digits", int)(0)  # whole numbers of more than 4,300 digits are read
-    parser = ArgumentParser(usage="check_evidence.py CASE EVIDENCE [--form text|csv|json] [--alpha N]")
-    parser.add_argument("files", nargs=2, type=FileType("rb"))
-    parser.add_argument("--form", choices=["text", "csv", "json"], default="text")
-    parser.add_argument("--alpha")
+    usage = "check_evidence.py CASE EVIDENCE [--form text|csv|json] [--alpha N]"
+    parser = ArgumentParser(usage=usage, description=__doc__, formatter_class=RawDescriptionHelpFormatter)
+    for name in ("case", "evidence"):
+        parser.add_argument(name, type=FileType("rb"), metavar=name.upper())
+    parser.add_argument("--form", choices=["text", "csv", "json"], default="text", help="the form of CASE; text if left out")
+    parser.add_argument("--alpha", help="the level, which a sheet does not have")
     words = parser.parse_args()
     try:
-        status, text = answer(*(file.read() for file in words.files), words.form, words.alpha)
+        status, text = answer(words.case.read(), words.evidence.read(), words.form, words.alpha)
     except (OSError, MemoryError) as error:  # as `welungad` ends, since Python would end with the status of a no
         status, text = (6, "read fault\n") if isinstance(error, OSError) else (8, "no memory\n")
     if WIDEST[0] > 59 or WIDEST[1] > 17:

@@ -1,13 +1,15 @@
 #!/usr/bin/env python3
 """Checks whether the page of a decision says what its own case implies. For a reviewer who trusts no program.
 
-    tools/check_page.py PAGE [EVIDENCE]
+    tools/check_page.py PAGE [EVIDENCE] [--case CASE]
 
-PAGE is a file that report.py, `Graph.report` or `graph_report` has written, and EVIDENCE the document whose digest it has. The script
-shares no code with `welungad` nor with what makes pages, and needs Python 3.9 or later alone. From the case in its one spelling, which
-is on the page, it computes anew what the page has to say, and compares
+PAGE is a file that report.py, `Graph.report` or `graph_report` has written, and EVIDENCE the document whose digest it has. CASE is your
+own case, a text as in docs/FORMATS.md: the page has to be about it. The script shares no code with `welungad` nor with what makes
+pages, and needs Python 3.9 or later alone. From the case in its one spelling, which is on the page, it computes anew what the page has
+to say, and compares
 
-- the headline, the digests, the tables of the decision, of the graph, of looks, of intersections and of bounds, and each picture;
+- the headline, the digests, the tables of the decision, of the graph, of looks, of intersections and of bounds;
+- each picture, element by element, by check_pictures.py: circles, arrows and texts with their places, sizes and colours;
 - what the program printed, and the evidence that this report leads to;
 - the case as it was given, which has to denote the case in its one spelling;
 - each sentence of the page with those that pages have, the commands, and the digests of the scripts;
@@ -29,18 +31,27 @@ import sys
 import unicodedata
 from collections import Counter
 from fractions import Fraction
+from itertools import zip_longest
 
 HERE = os.path.dirname(os.path.abspath(__file__))
 sys.path.insert(0, HERE)  # also where Python is told to leave it out
 
 import check_evidence  # noqa: E402
+import check_pictures  # noqa: E402
 import closed_test  # noqa: E402
 import make_evidence  # noqa: E402
 from check_evidence import Stop  # noqa: E402
 from staged_case import level, staged_case_of  # noqa: E402
 
 MOST_CLOSED, MOST_SETS, MOST_BOUNDS, MOST_STATES, MOST_PRINTED, MOST_EDGES, MOST_AGAIN = 12, 6, 16, 16, 8, 30, 8
-SCRIPTS = ("check_page", "check_evidence", "make_evidence", "closed_test", "staged_case")
+SCRIPTS = {
+    "check_page": "whether a page says what its own case implies",
+    "check_pictures": "what its pictures have to be, for check_page.py",
+    "check_evidence": "whether evidence holds for a case",
+    "make_evidence": "evidence for a decision, also where the program makes none",
+    "closed_test": "the decision by the definition of the closed test, over all intersections",
+    "staged_case": "cases with stages, for check_page.py and closed_test.py; not a command",
+}
 RELEASE = "0.2.0"
 POWERS = ["", "ε", "ε²", "ε³", "ε⁴"]
 FOOTER = ("This page does not show that the p-values are valid, that the graph was fixed before the data were seen, or that the case is the one of "
@@ -48,14 +59,25 @@ FOOTER = ("This page does not show that the p-values are valid, that the graph w
 UNSTATED = "Which program answered was not stated."
 WAY_ROUND = ("Or let a script decide, with numbers of any size. If the program then says yes to its evidence, the closed test rejects what is "
              "listed, and nothing else. If the numbers of the evidence are too wide for the program too, the last line alone checks it.")
-REFUSED_UNCHECKED = "the title, the cause, the cure, the marked line, the name of the file, the program and the lines to fill in"
-UNCHECKED = (
-    "the title, the labels, the name of the file, the priority in the commands and the lines to fill in",
-    "of the text that was given, what changes nothing of the case",
-    "of the pictures, the drawing: positions, sizes, colours, curves and arrows; checked are their titles, descriptions and texts",
-    "which proved calls made the evidence and the edges of the pictures",
-    "the scripts themselves: their digests on the page are compared with the files beside this one",
+ORIGIN = (
+    "In what it was built from, sha256 has the digest of a built file, commit the commit of the sources, built the names that git gives to the parts of "
+    "these sources, kit the checker and the compiler, and checkout the commit of the documents. If some lines begin with library, they are about the C "
+    "library, and the others about the program, which may be of another commit.",
+    "To see whether your own copy is the one that answered, compare the digest with what sha256sum prints of it. It is bin/welungad or "
+    "lib/libwelungad.so of an installation, or libwelungad.so in the folder of the Python package. The file PROVED of a release has the digests of "
+    "what was proved; that they are the same, no page can show.",
 )
+REFUSED_UNCHECKED = ("the title, the cause, the cure, the marked line, the name of the file, the protocol, the data cut, the author, and the program with its "
+                     "release, its digest and what it was built from")
+UNCHECKED = (
+    "the title, above the page and on each sheet, which the case does not have",
+    "the protocol, the data cut and the author, the name of the file, and the priority in the commands",
+    "of the text that was given, what changes nothing of the case",
+    "which proved calls made the evidence and the edges of the pictures; in the pictures, tenths of a pixel",
+    "the scripts, this one too: their digests on the page are compared with the files beside this one",
+)
+OWN_LABELS = "the labels, which are other names than those of the case; the table after the case has both"
+UNSTATED_ORIGIN = "which program or library answered, with its release and what it was built from; its digest is that of its own stamp"
 
 
 class NotAPage(Exception):
@@ -245,10 +267,12 @@ def hold_style(style, title):
 
 
 def figure_of(element):
-    """What a picture shows: its title, its description, and how often each text is in it."""
+    """What a picture shows: its title, its description, its size, and its elements in their order, each with its text."""
     caption, svg = next(element.all("figcaption")), next(element.all("svg"))
     titles = [next(svg.all(name)).text() for name in ("title", "desc")]
-    return ("picture", caption.text(), *titles, sorted(it.text() for it in svg.all("text")))
+    size = " ".join(f'{name}="{svg.attributes[name]}"' for name in ("viewBox", "width", "height"))
+    drawn = [(f"{it.name}{it.given}", it.raw()) for it in svg.all("marker", "path", "rect", "circle", "text")]
+    return ("picture", caption.text(), *titles, [(size, ""), *drawn])
 
 
 def parts_of(element):
@@ -646,34 +670,40 @@ class Wanted:
         if count > MOST_STATES:
             yield ("p", f"A graph of more than {MOST_STATES} hypotheses is drawn once.")
         figures = [*self.figures(is_whole)]
-        if count <= MOST_PRINTED or len(figures) <= 2:
-            yield from figures
-        else:
-            yield from [figures[0], figures[-1], ("summary", f"The {len(figures) - 2} pictures between these two, which are not printed"), *figures[1:-1]]
+        if count > MOST_PRINTED and len(figures) > 2:
+            between = [("summary", f"The {len(figures) - 2} pictures between these two, which are not printed")]
+            figures = [figures[0], figures[-1], between, *figures[1:-1]]
+        for figure in figures:
+            yield from figure
 
     def figures(self, is_whole):
-        """The pictures before the first rejection and after each; those that the page refuses are not checked."""
-        parts, few = self.decision.components(), len(self.names) <= MOST_STATES
-        kinds = [it for it in self.page.sections.get("graph", []) if it[0] in ("picture", "list")]
+        """The parts of the picture before the first rejection and after each. One that the page refuses is not checked."""
+        parts, few, centres = self.decision.components(), len(self.names) <= MOST_STATES, None
+        shown = self.page.sections.get("graph", [])
         for n in range(len(self.order) + 1 if few else 1):
             if n:
                 for part in parts:
                     part.remove(self.order[n - 1])
-            if any(kind[0] == "list" for kind in kinds):
-                self.skipped.append("the pictures, some of which the page has no weights for")
-                yield from [it for it in self.page.sections["graph"] if it[0] in ("picture", "list") or (it[0] == "p" and "there is no picture" in it[1])]
-                return
-            yield self.figure(parts, n, is_whole or n == 0, few)
+            title = self.title_of(n) if few or not self.order else "Before the first rejection, with the step of each later one"
+            refused = ("p", f"{title}: there is no picture, since the program prints no weights for it.")
+            if refused in shown[:-1]:
+                self.skipped.append("the pictures that the page has no weights for")
+                yield [refused, shown[shown.index(refused) + 1]]
+                continue
+            edges = [self.decision.edges_after(part, self.order[:n], is_whole or n == 0) for part in parts]
+            if centres is None:
+                begins = [k not in self.order[:n] and any(part.weight(k) for part in parts) for k in self.decision.known]
+                centres = check_pictures.centres(begins, [pair for found in edges for pair in found])
+            yield [self.figure(parts, n, title, edges, centres)]
 
-    def figure(self, parts, n, is_whole, few):
-        removed, case = self.order[:n], self.case
-        total = self.decision.weights_after(parts, removed)
-        edges = [self.decision.edges_after(part, removed, is_whole) for part in parts]
-        title = "The graph: no hypothesis is rejected"
-        if self.order:
-            title = (f"After step {n}: {self.tags[self.order[n - 1]]} is rejected" if n else "Before the first rejection") + (
-                ", the end" if n == len(self.order) else "")
-            title = title if few else "Before the first rejection, with the step of each later one"
+    def title_of(self, n):
+        if not self.order:
+            return "The graph: no hypothesis is rejected"
+        return (f"After step {n}: {self.tags[self.order[n - 1]]} is rejected" if n else "Before the first rejection") + (
+            ", the end" if n == len(self.order) else "")
+
+    def figure(self, parts, n, title, edges, centres):
+        removed, total = self.order[:n], self.decision.weights_after(parts, self.order[:n])
         sentences = [f"Rejected: {self.tags_of(removed)}."] if removed else []
         for k in total:
             sentence = f"{self.tags[k]} has the weight {total[k]}"
@@ -682,15 +712,23 @@ class Wanted:
                 if passed and len(self.names) <= MOST_PRINTED:
                     sentence += f" and passes{f' in component {c}' if len(parts) > 1 else ''} {listed(passed)}"
             sentences.append(sentence + ".")
-        marked = removed if few else self.order
-        texts = [*self.tags, *(short(part.weight(k)) for part in parts for k in total)]
-        texts += [f"p {decimal(x)}" for x in case.p] + [str(self.order.index(k) + 1) for k in marked] + [text for found in edges for text in found.values()]
-        texts.append(f"level α = {decimal(case.alpha)}")
+        drawn = next((it[4] for it in self.page.sections["graph"] if it[:2] == ("picture", title)), [])
+        spelled = {plain(text): text for _, text in drawn}
+        picture = check_pictures.Picture(
+            centres, [spelled.get(tag, tag) for tag in self.tags],
+            [(i, j, c, text) for c, found in enumerate(edges) for (i, j), text in found.items()],
+            [{k: short(part.weight(k)) for k in total} for part in parts], [f"p {decimal(x)}" for x in self.case.p],
+            {k: self.order.index(k) + 1 for k in (removed if len(self.names) <= MOST_STATES else self.order)}, self.lines_below(parts, edges))
+        return ("picture", title, title, " ".join(sentences) or "No hypothesis is left.", picture.elements(f"graph{n}-", drawn))
+
+    def lines_below(self, parts, edges):
+        """The lines below a picture, with their colours."""
+        lines = [(check_pictures.INK, f"level α = {decimal(self.case.alpha)}")]
         if len(parts) > 1 or parts[0].share != 1:
-            texts += [f"component {c}: share {part.share}" for c, part in enumerate(parts, 1)]
-        texts += ["ε: a positive number below every positive fraction"] if any("ε" in text for found in edges for text in found.values()) else []
-        texts.append("filled: rejected, with the number of the step")
-        return ("picture", title, title, " ".join(sentences) or "No hypothesis is left.", sorted(map(plain, texts)))
+            lines += [(check_pictures.COLOURS[c % 8], f"component {c + 1}: share {part.share}") for c, part in enumerate(parts)]
+        if any("ε" in text for found in edges for text in found.values()):
+            lines.append((check_pictures.INK, "ε: a positive number below every positive fraction"))
+        return [*lines, (check_pictures.INK, "filled: rejected, with the number of the step")]
 
     # ---- intersections, bounds
 
@@ -796,14 +834,15 @@ class Wanted:
     def program(self):
         """What is said of the program, which the case does not imply. Its digest has to be that of what it was built from."""
         found = [it for it in self.page.sections.get("program", []) if it[0] in ("list", "p")][:1]
-        self.skipped.append("the program and what it was built from")
+        self.skipped.append(UNSTATED_ORIGIN)
         if not found or found[0][0] != "list":
             return [("p", UNSTATED)]
         said = found[0][1][2 if found[0][1][:1] == ["Release of the C library"] else 0 :]
         for kind, name in (("program", "welungad"), ("C library", "libwelungad.so")):
             if said[:1] == [f"SHA-256 digest of the {kind}"] and said[2:3] == ["What it was built from"] and len(said) == 4:
                 stamped = re.search(rf"sha256 {re.escape(name)}[0-9.]* ([0-9a-f]{{64}})", said[3])
-                return found if stamped and stamped[1] == said[1] else [("list", f"a digest of the {kind} that is the one of its stamp")]
+                stated = [*found, *(("p", text) for text in ORIGIN)]
+                return stated if stamped and stamped[1] == said[1] else [("list", f"a digest of the {kind} that is the one of its stamp")]
         return [("list", "the digest of the program or of the C library, and what it was built from")]
 
     def commands(self):
@@ -811,6 +850,8 @@ class Wanted:
         priority = next((f" --priority {it[1]}" for it in [re.search(r" --priority (first|last|ratio)", self.words["test"])] if it), "")
         options = "".join(" " + shlex.quote(word) for word in self.options)
         yield ("h3", "To repeat it")
+        yield ("p", "The first line reads a file with the case as it was given, which is above. If you have only the case in its one spelling, call it "
+               "case.txt, and leave out the first line. The file report.txt then has to be what the program printed, above.")
         yield ("lines", "\n".join([f"welungad canon{options} < {shlex.quote(self.file)} > case.txt", "sha256sum case.txt",
                                    f"welungad {test}{priority} < case.txt > report.txt"]))
         made, script = [], self.words["script"]
@@ -826,9 +867,13 @@ class Wanted:
         if len(self.names) <= MOST_CLOSED:
             made.append(f"{script('closed_test')} case.txt" + ("" if self.case.staging else " --adjusted --bounds"))
         if made:
-            yield from [("h3", "To check it"), ("lines", "\n".join(made))]
-        yield ("p", "And whether this page says what its own case implies, for PAGE.html the file of the page:")
-        yield ("lines", f"{script('check_page')} PAGE.html")
+            yield ("h3", "To check it")
+            if not self.case.staging:
+                yield ("p", "If you were given evidence.txt, leave out the line that writes it. Its digest has to be the one above, and both checkers have to "
+                       "answer as above.")
+            yield ("lines", "\n".join(made))
+        yield ("p", "And whether this page says what its own case implies, and whether that is your case, for PAGE.html the file of the page:")
+        yield ("lines", f"{script('check_page')} PAGE.html --case case.txt")
 
     def scripts(self):
         """The release and the digests of the scripts: they have to be those of the scripts that are here."""
@@ -836,10 +881,17 @@ class Wanted:
                "and nothing else. They are in the folder tools of the repository, in share/welungad/tools of an installation, and in the Python package, "
                "which runs them by python3 -m welungad.reviewer.NAME.")
         rows = []
-        for name in SCRIPTS:
+        for name, purpose in SCRIPTS.items():
             with open(os.path.join(HERE, f"{name}.py"), "rb") as file:
-                rows.append(["", f"{name}.py", hashlib.sha256(file.read()).hexdigest()])
-        yield ("table", "scripts", "The scripts by which this page can be checked", [["", "Script", "SHA-256"], *rows])
+                rows.append(["", f"{name}.py", purpose, hashlib.sha256(file.read()).hexdigest()])
+        yield ("table", "scripts", "The scripts by which this page can be checked", [["", "Script", "What it finds or reads", "SHA-256"], *rows])
+        yield ("p", "A script that somebody has changed can answer anything, also about itself. So take the scripts from a source that you trust, and not "
+               "from whoever sent this page. This prints the digests of your copies, to be compared with those of the table:")
+        names = [f"{name}.py" for name in SCRIPTS]
+        if "-m" in self.words["script"](""):
+            yield ("lines", f"(cd \"$(python3 -c 'import welungad; print(*welungad.__path__)')/reviewer\" && sha256sum {' '.join(names)})")
+        else:
+            yield ("lines", " ".join(["sha256sum", *(f"tools/{name}" for name in names)]))
 
 
 def same_case(one, other):
@@ -876,8 +928,8 @@ def difference(found, wanted):
             if line != other:
                 return f"line {n}: it has {line!r}, and the case implies {other!r}"
     if found and wanted and found[0] == wanted[0] == "picture" and found[:4] == wanted[:4]:
-        more, less = Counter(found[4]) - Counter(wanted[4]), Counter(wanted[4]) - Counter(found[4])
-        return f"the picture {found[1]!r}: it has {sorted(more)}, and the case implies {sorted(less)}"
+        one, other = next(pair for pair in zip_longest(found[4], wanted[4], fillvalue=("nothing", "")) if pair[0] != pair[1])
+        return f"the picture {found[1]!r}: it has {' '.join(one).strip()!r}, and the case implies {' '.join(other).strip()!r}"
     return f"it has {told(found)[:300]}, and the case implies {told(wanted)[:300]}"
 
 
@@ -944,7 +996,7 @@ def refused_differences(page, line):
         yield "the sheets: on paper they do not have the digest of the text"
 
 
-def check_refused(page):
+def check_refused(page, case=None):
     """The status and the answer on a page about a case that is refused: whether these scripts refuse it with the same line."""
     lists = [it[1] for parts in page.sections.values() for it in parts if it[0] == "list"]
     line = re.fullmatch(r"(.*) \(status ([0-9]+) of ([a-z]+)\)", lists[0][1]) if lists else None
@@ -954,6 +1006,8 @@ def check_refused(page):
     if found:
         return 1, "no:\n" + "".join(f"  {it}\n" for it in found)
     given = page.part("The case as it was given", "lines")[1] + "\n"
+    if case is not None and case.decode("utf-8", "replace") not in (given, given[:-1]):
+        return 1, "no:\n  the case: the page is about another text than yours\n"
     options = shlex.split([it[1] for it in page.sections["The program"] if it[0] == "lines"][-1])
     form = options[options.index("--form") + 1] if "--form" in options else "text"
     alpha = options[options.index("--alpha") + 1] if "--alpha" in options else None
@@ -969,15 +1023,17 @@ def check_refused(page):
     return 0, f"yes\nrefused {line[1]}\nnot checked: {REFUSED_UNCHECKED}\nend\n"
 
 
-def answer(text, evidence=None):
+def answer(text, evidence=None, case=None):
     """The status and the text that the script ends with."""
     page = Page(text)
     if page.answer is None:
         raise NotAPage("it has no headline")
     if page.is_refused:
-        return check_refused(page)
+        return check_refused(page, case)
     canonical, report = page.part("case", "lines")[1], page.part("report", "lines")[1]
     try:
+        if case is not None and not same_case(staged_case_of(case), staged_case_of(canonical.encode())):
+            return 1, "no:\n  the case: the page is about another one than yours\n"
         decision = Decision(canonical, report)
         wanted = Wanted(page, decision, *words_of(page))
         if evidence is not None and not decision.staged:
@@ -987,24 +1043,28 @@ def answer(text, evidence=None):
                 return 1, f"no:\n  the evidence: {said}"
         found = [*differences(page, wanted)]
     except Stop as stop:
-        return 1, f"no:\n  the case in its one spelling is refused: {stop.args[1]}"
+        return 1, f"no:\n  the case in its one spelling, or yours, is refused: {stop.args[1]}"
     except (ValueError, NotAPage) as error:
         return 1, f"no:\n  {error}\n"
     if found:
         return 1, "no:\n" + "".join(f"  {it}\n" for it in found)
     rejected = " ".join(["rejected", *decision.names_rejected])
-    skipped = "".join(f"not checked: {it}\n" for it in dict.fromkeys([*UNCHECKED, *wanted.skipped]))
+    digest = hashlib.sha256(canonical.encode()).hexdigest()
+    other = [f"whether the case is yours, since --case was left out; its SHA-256 digest is {digest}"] if case is None else []
+    own = [OWN_LABELS] if wanted.labels != wanted.names else []
+    skipped = "".join(f"not checked: {it}\n" for it in dict.fromkeys([*other, *UNCHECKED, *own, *wanted.skipped]))
     return 0, f"yes\n{rejected}\n{skipped}end\n"
 
 
 def main():
-    parser = argparse.ArgumentParser(usage="check_page.py PAGE [EVIDENCE]", description=__doc__, formatter_class=argparse.RawDescriptionHelpFormatter)
+    parser = argparse.ArgumentParser(usage="check_page.py PAGE [EVIDENCE] [--case CASE]", description=__doc__, formatter_class=argparse.RawDescriptionHelpFormatter)
     parser.add_argument("page", type=argparse.FileType("rb"))
     parser.add_argument("evidence", type=argparse.FileType("rb"), nargs="?")
+    parser.add_argument("--case", type=argparse.FileType("rb"), help="your own case, in any spelling of a text")
     words = parser.parse_args()
     getattr(sys, "set_int_max_str_digits", int)(0)  # else Python prints no number of more than 4,300 digits
     try:
-        status, text = answer(words.page.read().decode("utf-8"), words.evidence and words.evidence.read())
+        status, text = answer(words.page.read().decode("utf-8"), words.evidence and words.evidence.read(), words.case and words.case.read())
     except (NotAPage, UnicodeDecodeError, StopIteration) as error:
         status, text = 2, f"not a page of a decision: {error}\n"
     sys.stdout.write(text)

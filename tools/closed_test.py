@@ -13,7 +13,8 @@ The weight of k in I is the sum, over the components, of share * lim (w_k + sum 
 rejects I where some k in I has a weight above 0 and a p-value of at most its weight times alpha. The closed test rejects a
 hypothesis if the local test rejects each set that contains it, and a set if it rejects each set that contains that set.
 
-Prints the level, the rejected hypotheses, and for each other one a set that contains it and is not rejected.
+The script shares no code with `welungad`. It prints the level, the rejected hypotheses, and for each other one a set that contains it
+and is not rejected, with status 0. For a case that is refused it prints the line of `welungad`, with its status (4 above 12 hypotheses).
 
     --sets      first each set, with its weights and the first hypothesis that rejects it
     --adjusted  for each hypothesis the least level at which the closed test rejects it: the greatest, over the sets with it, of the

@@ -175,6 +175,8 @@ class Case:
         lines = [(at, re.split("[ \t]+", line.rstrip("\r").strip(" \t"))) for at, line in enumerate(text.split("\n"), 1)]
         self.lines = [(at, words) for at, words in lines if words != [""] and words[0][0] != "#"]
         kinds = "".join(words[0] + " " for _, words in self.lines)
+        if "p" not in kinds.split(" ") or "stages" in kinds.split(" "):
+            raise ValueError("the case has stages or no p-values, and evidence is of single p-values")
         if not re.fullmatch("alpha hypotheses p (weights (edge )*|(component weights (edge )*)+)", kinds):
             raise ValueError("the lines are not alpha, hypotheses, p, weights and edge, in this order")
         [self.alpha], self.names, self.p = self.numerals(1), self.lines.pop(0)[1][1:], self.numerals()

@@ -455,7 +455,8 @@ def counted(rows):
 
 
 SIGNATURE = ("Carried out by", "Date", "Signature")
-LIMITS = "This shows that the installed files work here as on the pages. It does not show that a case is the one of a protocol."
+LIMITS = ("This shows that the installed files work here as on the pages. It does not show that they are those that were proved, since it compares them with "
+          "lists of the installation itself; PROVED and SHA256SUMS of the release have the digests. It does not show that a case is the one of a protocol.")
 
 
 def text_of(facts, rows):

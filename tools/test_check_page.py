@@ -1,20 +1,24 @@
 """Tests of check_page.py. The pages are those of test_report.py, whose reports are by hand; bench/pages.py makes many with the program."""
 import hashlib
 import os
+import random
 import re
 import subprocess
 import sys
 import tempfile
 import unittest
+from fractions import Fraction
 
 TOOLS = os.path.dirname(os.path.abspath(__file__))
 TOP = os.path.dirname(TOOLS)
 sys.path.insert(0, TOOLS)
 
 import check_page  # noqa: E402
+import check_pictures  # noqa: E402
 import test_tools  # noqa: E402
-from test_report import ANSWERS, CANON, CASE, answering, document, page_of  # noqa: E402
-from welungad import _page, _page_style  # noqa: E402
+from test_report import ANSWERS, CANON, CASE, STAGED, answering, document, page_of, staged  # noqa: E402
+from welungad import _page, _page_style, _picture  # noqa: E402
+from welungad._results import Component, Quotient  # noqa: E402
 
 PROGRAM = [("SHA-256 digest of the program", "ab" * 32), ("What it was built from", "sha256 welungad " + "ab" * 32)]
 EVIDENCE = ANSWERS["evidence", CANON]
@@ -77,17 +81,51 @@ SHOWN = [
 ]
 
 
+# What is altered in the pictures of a staged trial of two hypotheses, as a pattern, and what it becomes.
+ARROW = r'<path d="M(\S+) Q(\S+) ([^"]+)"( fill="none"[^>]*>)'
+DRAWN = [
+    ("an arrow less", ARROW + "\n", ""),
+    ("an arrow twice", "(" + ARROW + "\n)", r"\1\1"),
+    ("an arrow that leads the other way", ARROW, r'<path d="M\3 Q\2 \1"\4'),
+    ("an arrow that is a line", ARROW, r'<path d="M\1 Q\1 \3"\4'),
+    ("an arrow without its text", r"<rect [^>]*/>\n<text [^>]*>1</text>\n", ""),
+    ("a white arrow", 'stroke="#1f4e9e"', 'stroke="#fff"'),
+    ("a white arrowhead", 'z" fill="#1f4e9e"', 'z" fill="#fff"'),
+    ("no arrowhead", r"<marker [^>]*><path [^>]*/></marker>|(<path [^>]*) marker-end=[^>]*(/>)", r"\1\2"),
+    ("a wide ground of a text", r'width="14.2" height="19"', 'width="914.2" height="19"'),
+    ("a circle of what is not rejected filled", 'fill="#fff" stroke="#111"', 'fill="#cfe3cf" stroke="#111"'),
+    ("a circle of what is rejected not filled", 'fill="#cfe3cf" stroke="#111"', 'fill="#fff" stroke="#111"'),
+    ("a circle less", r'<circle [^>]*r="40"[^>]*>\n', ""),
+    ("a circle elsewhere", r'<circle cx="100.0"', '<circle cx="180.0"'),
+    ("no step of a rejection", r'<circle [^>]*r="11"[^>]*>\n<text [^>]*>1</text>\n', ""),
+    ("the step elsewhere", r'<circle cx="-100.0" cy="-40.0"', '<circle cx="100.0" cy="-40.0"'),
+    ("two weights in each other's place", r"(>)1/5(</text>(?:.|\n)*?>)4/5(</text>)", r"\g<1>4/5\g<2>1/5\3"),
+    ("the same by their positions", r'<text x="-100.0" y="7.0"((?:.|\n)*?)<text x="100.0" y="7.0"', r'<text x="100.0" y="7.0"\1<text x="-100.0" y="7.0"'),
+    ("two names in each other's place", r"(>)PFS(</text>(?:.|\n)*?>)OS(</text>)", r"\1OS\2PFS\3"),
+    ("a white text", r'fill="#111" text-anchor="middle" font-weight="normal">1/5', 'fill="#fff" text-anchor="middle" font-weight="normal">1/5'),
+    ("a small text", r'font-size="15.0" fill="#111" text-anchor="middle" font-weight="normal">1/5', 'font-size="0.1" fill="#111" text-anchor="middle" font-weight="normal">1/5'),
+    ("a level that is another one", "level α = 0.025", "level α = 0.05"),
+    ("a picture without its right half", r'viewBox="(\S+ \S+) \d+ (\d+)" width="\d+"', r'viewBox="\1 170 \2" width="170"'),
+    ("the same, enlarged", r'viewBox="(\S+ \S+) \d+ (\d+)"', r'viewBox="\1 170 \2"'),
+    ("a picture without its end", r'viewBox="(\S+ \S+ \d+) \d+"', r'viewBox="\1 90"'),
+    ("a picture that is small", r'width="\d+" height="\d+" font', 'width="3" height="2" font'),
+    ("another paper", r'<rect x="-\d+"', '<rect x="-9"'),
+]
+
+
 class Pages(unittest.TestCase):
     def setUp(self):
         self.page = page_of(CASE, answering(), file="two.txt", program=PROGRAM)
 
     def test_yes(self):
         """Whether the answer on a page is yes, with what is rejected and what was not checked, and with the evidence whose digest it has."""
-        unchecked = [*check_page.UNCHECKED, "the program and what it was built from"]
-        self.assertIn("of the pictures, the drawing: positions, sizes, colours, curves and arrows", unchecked[2])
-        wanted = "yes\nrejected H1\n" + "".join(f"not checked: {it}\n" for it in unchecked) + "end\n"
-        self.assertEqual(check_page.answer(self.page), (0, wanted))
-        self.assertEqual(check_page.answer(self.page, EVIDENCE.encode()), (0, wanted))
+        unchecked = [*check_page.UNCHECKED, check_page.UNSTATED_ORIGIN]
+        wanted = "".join(f"not checked: {it}\n" for it in unchecked) + "end\n"
+        first = f"not checked: whether the case is yours, since --case was left out; its SHA-256 digest is {hashlib.sha256(CANON.encode()).hexdigest()}\n"
+        for evidence in (None, EVIDENCE.encode()):
+            self.assertEqual(check_page.answer(self.page, evidence), (0, f"yes\nrejected H1\n{first}{wanted}"))
+            for case in (CANON, CASE):
+                self.assertEqual(check_page.answer(self.page, evidence, case.encode()), (0, f"yes\nrejected H1\n{wanted}"))
         for how in ({"labels": ["high <dose>", "a dose that is low: 5 mg or less"]}, {"labels": ["\u05de\u05d9\u05e0\u05d5\u05df", "\u202eA"]},
                     {"title": "</style> \"T\" \\ <b>"}, {"program": ()}, {"file": "a b's.txt"}):
             with self.subTest(how):
@@ -111,6 +149,20 @@ class Pages(unittest.TestCase):
                 with self.assertRaisesRegex(check_page.NotAPage, why):
                     check_page.answer(self.page.replace(old, new, 1))
 
+    def test_pictures(self):
+        """Whether the answer on a page is no if a picture of it is altered, and names the picture."""
+        page = page_of(test_tools.content("examples", "staged-levels.txt"), staged)
+        self.assertEqual(check_page.answer(page)[0], 0)
+        for what, old, new in DRAWN:
+            with self.subTest(what):
+                other = re.sub(old, new, page, count=2 if "|" in old else 1)
+                self.assertNotEqual(other, page)
+                try:
+                    status, text = check_page.answer(other)
+                except check_page.NotAPage as error:
+                    status, text = 2, str(error)
+                self.assertRegex(text, "^no:\n.*the picture '(Before the first|After step 1)" if status == 1 else "pages have no element|arrowheads")
+
     def test_style(self):
         """Whether the style that the script asks for is the one of pages."""
         style = check_page.SHEETS.sub(r'\1""', _page_style.style_of("a title", "a case"))
@@ -132,6 +184,59 @@ class Pages(unittest.TestCase):
             for text in ("", row[0] * 2):
                 self.assertEqual(check_page.answer(self.page[: row.start()] + text + self.page[row.end():])[0], 1, row[0])
 
+    def test_title(self):
+        """Whether another title changes no answer, since no case has one, and is among what was not checked; and whether it has to be the same
+        above the page, as that of the file and on each sheet."""
+        title, other = "The decision on two.txt", "Both doses are better than placebo"
+        self.assertEqual(self.page.count(title), 3)
+        places = [(f"<title>{title}<", f"<title>{other}<"), (f"<h1>{title}<", f"<h1>{other}<"), (f'content: "{title}"', f'content: "{other}"')]
+        page = self.page
+        for old, new in places:
+            self.assertIn(old, page)
+            with self.assertRaisesRegex(check_page.NotAPage, "title"):
+                check_page.answer(self.page.replace(old, new))
+            page = page.replace(old, new)
+        status, text = check_page.answer(page)
+        self.assertEqual(status, 0)
+        self.assertIn("\nnot checked: the title, above the page and on each sheet, which the case does not have\n", text)
+
+    def test_labels(self):
+        """Whether labels are among what was not checked if they are other names than those of the case, and only then; and whether labels that
+        are exchanged throughout are such."""
+        own = f"not checked: {check_page.OWN_LABELS}\n"
+        self.assertNotIn(own, check_page.answer(self.page)[1])
+        for labels in (["high", "low"], ["H2", "H1"]):
+            status, text = check_page.answer(page_of(CASE, answering(), labels=labels))
+            self.assertEqual((status, own in text), (0, True))
+
+    def test_each_digit(self):
+        """Whether each digit of a page counts, but for those in what the answer names as not checked: here in the protocol, the data cut and
+        the author, in the name of the file, in a remark of the text that was given, in what is said of the program, and in tenths of a pixel."""
+        library = [("Release of the C library", "0.2.0"), ("SHA-256 digest of the C library", "ab" * 32),
+                   ("What it was built from", f"built 12ab 34cd\ncommit 56ef\nkit 7\nsha256 libwelungad.so {'ab' * 32}\nsha256 welungad {'cd' * 32}")]
+        facts = _page.Facts("Protocol 12", "2026-05-01", "Author 3")
+        page = page_of("# case 4\n" + CASE, answering(canon=(0, CANON)), file="two5.txt", title="Trial 6", program=library, facts=facts)
+        self.assertEqual(check_page.answer(page)[0], 0)
+        named = [re.search(pattern, page, re.DOTALL).span() for pattern in (
+            '<dl class="facts">.*?</dl>', "&lt; two5.txt", "# case 4", "<dt>Release of the C library</dt>.*?</dd>",
+            "<dt>What it was built from</dt>.*?</dd>")]
+        digest = page.index("ab" * 32, named[-1][0])
+        named += [found.span(1) for drawn in re.finditer("<(?:path|rect|circle|text) [^>]*>", page) for found in re.compile(r"\d\.(\d)").finditer(page, *drawn.span())
+                  if found.start() > page.index("</style>")]
+        digits = [it.start() for it in re.finditer("[0-9]", page)]
+        self.assertGreater(len(digits), 1000)
+        named_digits = 0
+        for at in digits:
+            is_named = any(start <= at < end for start, end in named) and not digest <= at < digest + 64
+            other = page[:at] + ("1" if page[at] != "1" else "2") + page[at + 1:]
+            try:
+                status = check_page.answer(other)[0]
+            except check_page.NotAPage:
+                status = 2
+            self.assertTrue(is_named or status, page[at - 60 : at + 60])
+            named_digits += is_named and not status
+        self.assertGreater(named_digits, 30)
+
     def test_what_is_not_said(self):
         """Whether the answer stays yes if an alteration changes nothing of what is said: a remark, another numeral of the same value, a
         line to fill in."""
@@ -147,11 +252,21 @@ class Pages(unittest.TestCase):
             self.assertEqual(status, 1)
             self.assertIn(words, text)
 
+    def test_another_case(self):
+        """Whether a page about another case than the reviewer's is refused, and names the case."""
+        for old, new, said in [("13/500", "27/1000", "another one than yours"), ("H2", "H3", "another one than yours"),
+                               ("1/2\n", "1/2\nedge H1 H2 1\n", "another one than yours"), ("weights", "weigths", "refused: malformed: line 4: unexpected")]:
+            self.assertIn(old, CANON)
+            status, text = check_page.answer(self.page, None, CANON.replace(old, new).encode())
+            self.assertEqual((status, said in text), (1, True), text)
+
     def test_refused_cases(self):
         """Whether the page of a refused case is compared with the refusal of the scripts."""
         bad = CASE.replace("0.025", "2.5%")
         page = document(bad, answering(canon=(3, "malformed: line 4: number\n")))[1]
         self.assertEqual(check_page.answer(page), (0, f"yes\nrefused malformed: line 4: number\nnot checked: {check_page.REFUSED_UNCHECKED}\nend\n"))
+        for case, status in ((bad, 0), (bad.strip(), 0), (CASE, 1)):
+            self.assertEqual(check_page.answer(page, None, case.encode())[0], status)
         page = document(CASE, answering(canon=(3, "malformed: line 4: number\n")))[1]
         self.assertEqual(check_page.answer(page)[0], 1)
         page = document(CASE, answering(test=(5, "too wide: step 3: component 1 weight of H4 mul\n")))[1]
@@ -185,6 +300,38 @@ class Pages(unittest.TestCase):
         done = subprocess.run([sys.executable, os.path.join(TOP, "bench", "pages.py"), *words], capture_output=True, text=True)
         self.assertEqual((done.returncode, done.stderr), (0, ""), done.stdout)
         self.assertIn("\n0 wrong\n", done.stdout)
+
+
+class Pictures(unittest.TestCase):
+    def test_drawn(self):
+        """Whether the elements that the script asks for are those that are drawn, on graphs from a seed: one or more, with p-values or
+        without, with all hypotheses or some, and with epsilon."""
+        for n in range(60):
+            with self.subTest(n):
+                self.compare(random.Random(f"pictures/{n}"))
+
+    def compare(self, rng):
+        count = rng.choice([1, 2, 3, 4, 5, 6, 8, 12, 16])
+        tags = [rng.choice(["H", "dose "]) + str(n) for n in range(1, count + 1)]
+        gone = rng.sample(range(count), rng.choice([0, 0, 1, count // 2]))
+        left, shape, parts = [k for k in range(count) if k not in gone], rng.choice(["chain", "all", "some", "ring"]), []
+        values = [Fraction(1, 2), Fraction(123457, 10**9 + 7), Quotient((Fraction(1), Fraction(-1)), (Fraction(3),)), Quotient((Fraction(0), Fraction(1)), (Fraction(2), Fraction(1)))]
+        for share in rng.choice([[1], [1], [Fraction(1, 2)] * 2, [Fraction(1, 3)] * 3]):
+            chosen = {"chain": lambda i, j: j == i + 1, "all": lambda i, j: count <= 6, "some": lambda i, j: rng.random() < 0.3, "ring": lambda i, j: (j - i) % count == 1}[shape]
+            edges = {(tags[i], tags[j]): rng.choice(values) for i in left for j in left if i != j and chosen(i, j)}
+            parts.append(Component(Fraction(share), {tags[k]: Fraction(int(k < 3 or shape == "all"), count) for k in left}, edges))
+        p = {tag: Fraction(rng.randrange(1, 10**4), 10 ** rng.choice([4, 9])) for tag in tags} if rng.random() < 0.7 else None
+        steps = {k: n for n, k in enumerate(gone, 1)}
+        drawn = _picture.Drawn(tags, Fraction(1, 20), p, parts)
+        edges = _picture.edges_of(drawn)
+        text = _picture.picture_of(drawn, {tags[k]: n for k, n in steps.items()}, prefix="graph0-", title="a")
+        found = check_page.figure_of(check_page.element_of("figure", f"<figcaption>a</figcaption>{text}"))[4]
+        centres = check_pictures.centres([any(part.weights.get(tag) for part in parts) for tag in tags], [it[:2] for it in edges])
+        picture = check_pictures.Picture(
+            centres, tags, [(it.start, it.end, it.component, _picture.number_text(it.value)) for it in edges],
+            [{k: _picture.short(part.weights[tag]) for k, tag in enumerate(tags) if tag in part.weights} for part in parts],
+            [f"p {_picture.decimal(p[tag])}" for tag in tags] if p else [], steps, _picture._legend(drawn, edges, True, False))
+        self.assertEqual(found, picture.elements("graph0-", found))
 
 
 if __name__ == "__main__":

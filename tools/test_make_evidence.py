@@ -203,7 +203,7 @@ class Cases(unittest.TestCase):
             ("edge H1 H2 1", "edge H1 H9 1", "line 6: there are not two names"),
             ("edge H1 H2 1", "edge H1 H2", "line 6: there are not two names"),
             ("edge H1 H2 1", "edge H1 H2 1/0", "line 6: '1/0' divides"),
-            ("edge H2 H3 1", "stages 2", "the lines are not alpha"),
+            ("edge H2 H3 1", "stages 2", "the case has stages or no p-values, and evidence is of single p-values"),
         ]:
             with self.subTest(new), self.assertRaisesRegex(ValueError, wanted.replace("(", "\\(")):
                 self.assertIn(old, test_tools.SEQUENCE)

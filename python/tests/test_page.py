@@ -4,6 +4,7 @@ import html.parser
 import inspect
 import os
 import pathlib
+import re
 import subprocess
 import sys
 import tempfile
@@ -200,7 +201,7 @@ class Scripts(test_library.Rooms):
         graph = pair(("A", "B"))
         decision = graph.test([0.01, 0.9])
         page = graph.report(decision)
-        blocks = [it for it in Reader(page.html).all("pre") if it.startswith(("welungad ", "python3 "))]
+        blocks = [it for it in Reader(page.html).all("pre") if it.startswith(("welungad ", "python3 ", "(cd "))]
         self.put("trial.txt", decision.case.encode())
         page.save(os.path.join(self.room, "PAGE.html"))
         path = os.path.join(os.environ["WELUNGAD_INSTALLED"], "bin")
@@ -214,6 +215,10 @@ class Scripts(test_library.Rooms):
             said += done.stdout.decode()
         self.assertEqual(said.count("yes\nlisted A\nkept B\nend\n"), 2)
         self.assertIn("\nrejected A\n", said)
+        digests = re.findall(r"\b[0-9a-f]{64}\b", page.html[page.html.index('<caption id="scripts">'):])
+        self.assertGreater(len(digests), 4)
+        for digest in digests:
+            self.assertIn(f"{digest}  ", said)
         with open(os.path.join(self.room, "report.txt"), encoding="ascii") as file:
             self.assertEqual(file.read(), decision.report)
         self.put("PAGE.html", graph.report(decision).html.encode())

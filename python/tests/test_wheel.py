@@ -84,7 +84,8 @@ class Wheels(unittest.TestCase):
             self.assertIn(line, metadata.split("\n"))
         self.assertNotRegex(metadata, r"\]\((?!https?:)")
         wanted = {f"welungad/{it}" for it in os.listdir(os.path.join(SOURCES, "welungad")) if it.endswith(".py")}
-        wanted |= {f"welungad/reviewer/{it}.py" for it in ("check_evidence", "check_page", "closed_test", "make_evidence", "qualify", "staged_case")}
+        wanted |= {f"welungad/reviewer/{it}.py" for it in ("check_evidence", "check_page", "check_pictures", "closed_test", "make_evidence", "qualify",
+                                                             "staged_case")}
         wanted |= {f"welungad/examples/{it}" for it in os.listdir(places.EXAMPLES)}
         wanted |= {"welungad/py.typed", "welungad/REFUSALS.md"}
         wanted |= {f"{information}/licenses/{it}" for it in ("LICENSE", "LICENSE-MIT", "LICENSE-APACHE")}

@@ -19,7 +19,7 @@ from ._page_style import style_of
 from ._picture import Centres, centres_of, edges_of, number_text, picture_of
 from ._refusals import BadAnswer, Refused, explained
 from ._results import Bounds, Decision, Weights
-from ._reviewer import script_path, script_words
+from ._reviewer import digests_words, script_path, script_words
 from ._updates import Calls
 
 LARGE = 620  # a wider picture has the whole width of the page
@@ -27,7 +27,15 @@ MOST_EDGES, MOST_PRINTED = 30, 8  # edges of a graph that is drawn; hypotheses o
 MOST_LINES = 40  # lines of a text that is printed in one column
 SAME = "<p>It was given in its one spelling, which follows.</p>"
 RELEASE = "0.2.0"
-SCRIPTS = ("check_page", "check_evidence", "make_evidence", "closed_test", "staged_case")
+SCRIPTS = {
+    "check_page": "whether a page says what its own case implies",
+    "check_pictures": "what its pictures have to be, for <code>check_page.py</code>",
+    "check_evidence": "whether evidence holds for a case",
+    "make_evidence": "evidence for a decision, also where the program makes none",
+    "closed_test": "the decision by the definition of the closed test, over all intersections",
+    "staged_case": "cases with stages, for <code>check_page.py</code> and <code>closed_test.py</code>; not a command",
+}
+ORIGIN = "What it was built from"
 P_VALUE, BLANK = '<span class="whole">p-value</span>', '<span class="blank"></span>'
 
 Found = TypeVar("Found")
@@ -475,7 +483,12 @@ def commands(findings: Findings, checks: Checks, file: str, words: Sequence[str]
     test = "stages" if findings.is_staged else "test" + priority
     options = "".join(" " + shlex.quote(word) for word in words)
     repeat = [f"welungad canon{options} < {source} > case.txt", "sha256sum case.txt", f"welungad {test} < case.txt > report.txt"]
-    parts = ["<h3>To repeat it</h3>", "<pre>" + escape("\n".join(repeat)) + "</pre>"]
+    parts = [
+        "<h3>To repeat it</h3>",
+        "<p>The first line reads a file with the case as it was given, which is above. If you have only the case in its one spelling, call it "
+        "<code>case.txt</code>, and leave out the first line. The file <code>report.txt</code> then has to be what the program printed, above.</p>",
+        "<pre>" + escape("\n".join(repeat)) + "</pre>",
+    ]
     made = []
     if not findings.is_staged:
         made += [f"welungad evidence{priority} < case.txt > evidence.txt", "sha256sum evidence.txt", "welungad check evidence.txt < case.txt"]
@@ -487,24 +500,31 @@ def commands(findings: Findings, checks: Checks, file: str, words: Sequence[str]
     if len(findings.names) <= 12:
         made.append(f"{script_words('closed_test')} case.txt" + ("" if findings.is_staged else " --adjusted --bounds"))
     if made:
-        parts += ["<h3>To check it</h3>", "<pre>" + escape("\n".join(made)) + "</pre>"]
-    return [*parts, "<p>And whether this page says what its own case implies, for PAGE.html the file of the page:</p>",
-            "<pre>" + escape(f"{script_words('check_page')} PAGE.html") + "</pre>"]
+        parts.append("<h3>To check it</h3>")
+        if not findings.is_staged:
+            parts.append("<p>If you were given <code>evidence.txt</code>, leave out the line that writes it. Its digest has to be the one above, and both checkers have to answer "
+                         "as above.</p>")
+        parts.append("<pre>" + escape("\n".join(made)) + "</pre>")
+    return [*parts, "<p>And whether this page says what its own case implies, and whether that is your case, for PAGE.html the file of the page:</p>",
+            "<pre>" + escape(f"{script_words('check_page')} PAGE.html --case case.txt") + "</pre>"]
 
 
 def script_table() -> str:
-    """Returns the release and the digests of the reviewers' scripts, and where they are."""
+    """Returns the release and the digests of the reviewers' scripts, where they are, and how to see whether other copies are the same."""
     rows = []
-    for name in SCRIPTS:
+    for name, purpose in SCRIPTS.items():
         try:
-            rows.append(["", f"<code>{name}.py</code>", f"<code>{digest_of(script_path(name))}</code>"])
+            rows.append(["", f"<code>{name}.py</code>", purpose, f"<code>{digest_of(script_path(name))}</code>"])
         except OSError:
             continue
     return "\n".join([
         f"<p>The scripts are those of release {RELEASE}. They share no code with the program, and need Python 3.9 or later and nothing else. They are in "
         "the folder <code>tools</code> of the repository, in <code>share/welungad/tools</code> of an installation, and in the Python package, "
         "which runs them by <code>python3 -m welungad.reviewer.NAME</code>.</p>",
-        table("scripts", "The scripts by which this page can be checked", ["Script", "SHA-256"], rows),
+        table("scripts", "The scripts by which this page can be checked", ["Script", "What it finds or reads", "SHA-256"], rows),
+        "<p>A script that somebody has changed can answer anything, also about itself. So take the scripts from a source that you trust, and not from "
+        "whoever sent this page. This prints the digests of your copies, to be compared with those of the table:</p>",
+        f"<pre>{escape(digests_words([f'{name}.py' for name in SCRIPTS]))}</pre>",
     ])
 
 
@@ -512,6 +532,21 @@ def program_list(program: Sequence[Tuple[str, str]]) -> str:
     """Returns what is known of the program that answered."""
     items = "".join(f"<dt>{escape(name)}</dt><dd><code>{escape(text)}</code></dd>" for name, text in program)
     return f"<dl>{items}</dl>" if items else "<p>Which program answered was not stated.</p>"
+
+
+def origin(program: Sequence[Tuple[str, str]]) -> List[str]:
+    """Returns how to read what the program was built from, and what that does not show."""
+    if ORIGIN not in [name for name, _ in program]:
+        return []
+    return [
+        "<p>In what it was built from, <code>sha256</code> has the digest of a built file, <code>commit</code> the commit of the sources, <code>built</code> "
+        "the names that git gives to the parts of these sources, <code>kit</code> the checker and the compiler, and <code>checkout</code> the commit of the "
+        "documents. If some lines begin with <code>library</code>, they are about the C library, and the others about the program, which may be of "
+        "another commit.</p>",
+        "<p>To see whether your own copy is the one that answered, compare the digest with what <code>sha256sum</code> prints of it. It is "
+        "<code>bin/welungad</code> or <code>lib/libwelungad.so</code> of an installation, or <code>libwelungad.so</code> in the folder of the Python package. "
+        "The file <code>PROVED</code> of a release has the digests of what was proved; that they are the same, no page can show.</p>",
+    ]
 
 
 FOOTER = """<footer>
@@ -591,7 +626,7 @@ def sections_of(findings: Findings, checks: Checks, file: str, words: Sequence[s
          + name_table(findings)),
         ("report", "What the program printed", lines_in(escape(findings.report))),
         ("program", "The program, and how to repeat and check the decision",
-         "\n".join([program_list(program), *commands(findings, checks, file, words), script_table()])),
+         "\n".join([program_list(program), *origin(program), *commands(findings, checks, file, words), script_table()])),
     ) if it[2]]
 
 

@@ -281,7 +281,7 @@ def edges_of(graph: Drawn) -> List[Edge]:
 def _frame(edges: Sequence[Edge], centre: Centres, names: Sequence[Sequence[str]], lines: Sequence[Line]) -> Tuple[float, float, float, float]:
     """Returns the left, upper, right and lower end of a picture, which has the lines of the legend at its lower end."""
     xs, ys = [x for x, _ in centre], [y for _, y in centre]
-    far = max([0.0, *(abs(_bow_of(edges, it, centre)) for it in edges if ys[it.start] == ys[it.end])])
+    far = max([0.0, *(abs(_bow_of(edges, it, centre)) for it in edges if round(ys[it.start]) == round(ys[it.end]))])
     side = max(75, *(4 * len(line) for name in names for line in name))
     most = max(map(len, names))
     beside = most > 1 or any(len(name[0]) > MOST_INSIDE for name in names)

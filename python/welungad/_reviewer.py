@@ -3,7 +3,7 @@ import functools
 import importlib.util
 import os
 from types import ModuleType
-from typing import Optional
+from typing import Optional, Sequence
 
 from ._library import PACKAGE
 
@@ -28,6 +28,13 @@ def script_words(name: str, python: Optional[str] = None) -> str:
     """Returns the words of a command line that run a script."""
     is_own = os.path.isdir(os.path.join(PACKAGE, FOLDER))
     return f"{python or 'python3'} " + (f"-m welungad.{FOLDER}.{name}" if is_own else f"tools/{name}.py")
+
+
+def digests_words(files: Sequence[str]) -> str:
+    """Returns a command line that prints the digests of scripts, wherever it is run if they are in the package."""
+    if os.path.isdir(os.path.join(PACKAGE, FOLDER)):
+        return f"(cd \"$(python3 -c 'import welungad; print(*welungad.__path__)')/{FOLDER}\" && sha256sum {' '.join(files)})"
+    return f"sha256sum {' '.join(f'tools/{it}' for it in files)}"
 
 
 @functools.lru_cache(maxsize=None)

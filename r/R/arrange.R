@@ -45,7 +45,9 @@ arranged <- function(x, keys, what, count = NULL) {
   given <- if (inherits(x, "welungad_exact")) x$names else names_in(x)
   if (!is.null(given)) {
     if (length(keys) == 1 && identical(given, keys[[1]])) return(x)
-    return(x[places_among(given, keys, what)])
+    # (an error within the brackets would be told as one of finding a method, once a package has methods for them)
+    places <- places_among(given, keys, what)
+    return(x[places])
   }
   if (!is.null(count) && length(x) != count) {
     stop_at(what, whole_text(length(x)), " given for ", count_of_hypotheses(count))
