@@ -46,7 +46,7 @@ test_that("p-values are handed back as they were given, and doubles are on the s
     # the double nearest to a level that no double is read as: its decimal is above the level or below it
     sides <- vapply(1:20, function(n) {
       p <- n / 3999640
-      decimal <- gmp::as.bigq(as_exact(p)$read) <= gmp::as.bigq(n, 3999640)
+      decimal <- welungad:::fraction(as_exact(p)$read) <= gmp::as.bigq(n, 3999640)
       closed <- as.data.frame(graph_test_closure(graph_create(c(H1 = paste0(n, "/99991")), matrix("0", 1, 1)), p, 0.025))
       expect_identical(p <= closed[["level H1"]], as.logical(decimal), info = n)
       expect_identical(closed$p_local <= 0.025, closed$local, info = n)
