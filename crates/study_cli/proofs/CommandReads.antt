@@ -28,7 +28,8 @@ use Rattle.study_cli.specs.declared.command.StudyCommand.TheVariants.{Take, Show
 use Rattle.study_cli.specs.declared.fault.CommandsFault.{CommandsFault}
 use Rattle.study_cli.specs.declared.fault.CommandsFault.TheVariants.{Line, NoMemory}
 use Rattle.study_cli.specs.CommandFaults.{IsFirstFault, on_line}
-use Rattle.study_cli.specs.CommandLines.{arrival_of, IsCommandLine, AreCommandLines, AreCommands, IsBelow}
+use Rattle.study_register.specs.Looking.{arrival_of}
+use Rattle.study_cli.specs.CommandLines.{IsCommandLine, AreCommandLines, AreCommands, IsBelow}
 use Rattle.study_cli.specs.CommandStatements.{CommandsAreOfLines, IsFirstBadLine, FaultsAreBadLines, FaultsAreFirst}
 use Rattle.study_cli.specs.Commands.{taking, look, show, command, commands, commands_of}
 use Rattle.study_cli.proofs.LookPlaces.{place_below}

@@ -2,16 +2,12 @@
 use Rattle.std.specs.Prelude.{◌≡◌, ◌<◌, ℕ, List, [], ◌∷◌, Ok, codes}
 use Rattle.std.specs.List.{AllZip}
 use Rattle.graph_io.specs.declared.keeper.Look.{Look}
-use Rattle.case_model.specs.declared.draft_stages.Arrival.{Arrival}
 use Rattle.text_lines.specs.Words.{words_of}
 use Rattle.edge_text.specs.Grammar.{IsLineOf, IsArrival}
+use Rattle.study_register.specs.Looking.{arrival_of}
 use Rattle.study_cli.specs.Commands.{commands_of}
 use Rattle.study_cli.specs.declared.command.StudyCommand.{StudyCommand}
 use Rattle.study_cli.specs.declared.command.StudyCommand.TheVariants.{Take, Show}
-
--- the p-value of a look, as one that arrives
-abbrev pub arrival_of : Look → Arrival
-arrival_of look = record { hypothesis = look.hypothesis; stage = look.stage; p = look.p }
 
 -- `look`, and the words of a p-value that arrives: the name of its hypothesis, the number of its stage, and its numeral
 abbrev pub IsLookLine : List (List ℕ) → List ℕ → Look → Type 0
