@@ -48,7 +48,7 @@ fn put_arrival(text: &mut List<u8>, case: &Case, arrival: &Arrival) -> Result<()
     text.push(b'\n')
 }
 
-/// Appends the lines of rejections.
+/// The printer of rejections.
 #[derive(Clone, Copy)]
 pub(crate) struct Rejections<'a>(pub &'a Case);
 
@@ -67,7 +67,7 @@ impl Printer<Settled> for Rejections<'_> {
     }
 }
 
-/// Appends the lines of the arrivals, each with those of the rejections that it brings.
+/// The printer of the arrivals, each with the rejections that it brings.
 #[derive(Clone, Copy)]
 struct Looks<'a>(&'a Case, &'a [List<Settled>]);
 

@@ -36,7 +36,7 @@ fn put_figures(text: &mut List<u8>, case: &Case, step: &StepLine) -> Result<(), 
     step.weight.print(text)
 }
 
-/// Appends the lines of the steps, counted from 1.
+/// The printer of the steps, whose lines are counted from 1.
 #[derive(Clone, Copy)]
 struct Steps<'a>(&'a Case);
 
@@ -52,7 +52,7 @@ impl Printer<StepLine> for Steps<'_> {
     }
 }
 
-/// Appends the lines of the retained hypotheses.
+/// The printer of the retained hypotheses.
 #[derive(Clone, Copy)]
 struct Kept<'a>(&'a Case);
 
@@ -74,7 +74,7 @@ fn reached_words(reached: bool) -> &'static [u8]
     if reached { b"" } else { b" not reached" }
 }
 
-/// Appends the lines of the adjusted values, of which each is that of the hypothesis at its place.
+/// The printer of the adjusted values, each of which is that of the hypothesis at its place.
 #[derive(Clone, Copy)]
 struct Values<'a>(&'a Case);
 
