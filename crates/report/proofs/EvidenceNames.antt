@@ -1,29 +1,15 @@
 -- Names of the hypotheses of evidence.
-use Rattle.std.proofs.Common.{◌≡◌, sym, ap, ap₂, subst, ◌∙◌, ℕ, ◌<◌, List, ◌++◌, map, Result}
+use Rattle.std.proofs.Common.{◌≡◌, sym, ap, ap₂, subst, ◌∙◌, ℕ, List, ◌++◌, map, Result}
 use Rattle.std.specs.Prelude.{OnOk}
-use Rattle.std.specs.List.{All}
-use Rattle.field_core.specs.Kind.{Parts}
 use Rattle.fraction.specs.Plain.{fraction_parts}
 use Rattle.eps_quotient.specs.View.{quotient_parts}
 use Rattle.case_model.specs.Content.{Content}
 use Rattle.evidence_check.specs.declared.evidence.Evidence.{Evidence}
 use Rattle.evidence_check.specs.declared.evidence.Evidence.TheVariants.{Plain, Eps}
-use Rattle.evidence_check.specs.declared.evidence.ProofStep.{ProofStep}
-use Rattle.evidence_check.specs.declared.evidence.KeepProof.{KeepProof}
 use Rattle.evidence_check.specs.declared.evidence.Steps.{Steps}
-use Rattle.evidence_check.specs.EvidenceParts.{StepParts, KeepParts}
-use Rattle.evidence_check.specs.EvidenceView.{hypotheses_of, step_parts, keep_parts, version_of, steps_of, keeps_of}
+use Rattle.evidence_check.specs.EvidenceView.{hypotheses_of, version_of, steps_of, keeps_of}
 use Rattle.evidence_check.proofs.Hypotheses.{same_hypotheses, same_kept}
 use Rattle.report.specs.CheckReport.{listed_line, keeps_line}
-use Rattle.case_model.proofs.Holding.{all_from_map}
-
-pub steps_below : {F : Type 0} (m : ℕ) (parts : F → Parts) (ss : List (ProofStep F)) → All (λ s. s.hypothesis < m) (map (step_parts parts) ss)
-    → All (λ s. s.hypothesis < m) ss
-steps_below m parts ss h = all_from_map (λ (s : StepParts). s.hypothesis < m) (step_parts parts) ss h
-
-pub keeps_below : {F : Type 0} (m : ℕ) (parts : F → Parts) (xs : List (KeepProof F)) → All (λ x. x.hypothesis < m) (map (keep_parts parts) xs)
-    → All (λ x. x.hypothesis < m) xs
-keeps_below m parts xs h = all_from_map (λ (x : KeepParts). x.hypothesis < m) (keep_parts parts) xs h
 
 -- the lines of the hypotheses of evidence
 abbrev evidence_lines : Content → Evidence → List ℕ

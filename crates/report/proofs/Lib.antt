@@ -4,4 +4,3 @@ pub mod ListedLines
 pub mod LooksOfCase
 pub mod OfCase
 pub mod SetReports
-pub mod StageLines

@@ -1,5 +1,6 @@
 pub mod CheckReport
 pub mod Deciding
+pub mod EachText
 pub mod ReportStatements
 pub mod StagesReport
 pub mod StudyReport

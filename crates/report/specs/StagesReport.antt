@@ -1,7 +1,7 @@
 -- What the command `stages` prints of a case and the looks at it.
-use Rattle.std.specs.Prelude.{ℕ, ◌<◌, ◌==◌, Bool, List, [], ◌∷◌, ◌++◌, length, codes}
+use Rattle.std.specs.Prelude.{ℕ, ◌<◌, ◌==◌, Bool, List, [], ◌++◌, length, get_or, codes}
 use Rattle.std.specs.Fmt.{decimal}
-use Rattle.std.specs.List.{All, flat_map, list_any}
+use Rattle.std.specs.List.{All, list_any}
 use Rattle.answers.specs.Lines.{line}
 use Rattle.field_core.specs.View.{terms}
 use Rattle.fraction.specs.Spelling.{spelling}
@@ -9,6 +9,7 @@ use Rattle.case_model.specs.declared.draft_stages.Arrival.{Arrival}
 use Rattle.case_model.specs.Content.{Content}
 use Rattle.staged_levels.specs.declared.event.Settled.{Settled}
 use Rattle.staged_levels.specs.Looks.{arrivals_of}
+use Rattle.report.specs.EachText.{each}
 use Rattle.report.specs.TestReport.{spaced_name, names_where, alpha_line}
 
 -- each rejection is of a hypothesis of the case
@@ -26,13 +27,11 @@ reject_line case r = line (codes "reject" ++ spaced_name case r.hypothesis ++ co
 
 -- an arrival, and the rejections that it brings
 unfoldable pub look_lines : Content → Arrival → List Settled → List ℕ
-look_lines case a look = arrive_line case a ++ flat_map (reject_line case) look
+look_lines case a look = arrive_line case a ++ each (λ _ r. reject_line case r) 0 look
 
--- the arrivals in their order, each with its rejections
+-- the arrivals in their order, each with the rejections of the look at its place, and none past the last look
 abbrev pub looks_lines : Content → List Arrival → List (List Settled) → List ℕ
-looks_lines case [] looks = []
-looks_lines case (a ∷ more) [] = []
-looks_lines case (a ∷ more) (look ∷ looks) = look_lines case a look ++ looks_lines case more looks
+looks_lines case arrivals looks = each (λ i a. look_lines case a (get_or looks i [])) 0 arrivals
 
 -- whether the hypothesis at a position is rejected in some look
 unfoldable pub is_settled : List (List Settled) → ℕ → Bool

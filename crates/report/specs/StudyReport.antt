@@ -10,6 +10,7 @@ use Rattle.case_model.specs.Content.{Content}
 use Rattle.staged_levels.specs.declared.event.Settled.{Settled}
 use Rattle.staged_levels.specs.declared.event.StepFault.{StepFault}
 use Rattle.staged_levels.specs.declared.event.StepFault.TheVariants.{Known, StageRange, PRange, Rejected, NotLegal, Wide}
+use Rattle.report.specs.EachText.{each}
 use Rattle.report.specs.TestReport.{spaced_name, names_where, alpha_line}
 use Rattle.report.specs.StagesReport.{reject_line}
 
@@ -28,7 +29,7 @@ look_line case l = line (codes "look" ++ spaced_name case l.hypothesis ++ codes 
 
 -- the lines of a look, and of the rejections that it brings
 unfoldable pub taken_lines : Content → Look → List Settled → List ℕ
-taken_lines case l rejections = look_line case l ++ flat_map (reject_line case) rejections
+taken_lines case l rejections = look_line case l ++ each (λ _ r. reject_line case r) 0 rejections
 
 -- the word for why an arrival is refused, and an empty one if the fault isn't that of an arrival
 abbrev pub refusal_word : StepFault → List ℕ

@@ -13,6 +13,7 @@ use Rattle.case_model.specs.Sums.{ratio_at}
 use Rattle.sequential.specs.declared.decision.StepLine.{StepLine}
 use Rattle.sequential.specs.declared.decision.Decision.{Decision}
 use Rattle.adjusted_p.specs.declared.adjusted.Adjusted.{Adjusted}
+use Rattle.report.specs.EachText.{each}
 
 -- each line is of a hypothesis of the case
 abbrev pub AreOfCase : Content → List StepLine → Type 0
@@ -49,10 +50,9 @@ alpha_line case = line (codes "alpha " ++ spelling (terms case.alpha))
 unfoldable pub step_line : Content → ℕ → StepLine → List ℕ
 step_line case n x = line (codes "step " ++ decimal n ++ figures case x)
 
--- the lines of the steps in their order, of which the first has this number
-abbrev pub step_lines : Content → ℕ → List StepLine → List ℕ
-step_lines case n [] = []
-step_lines case n (x ∷ xs) = step_line case n x ++ step_lines case (n + 1) xs
+-- the lines of the steps in their order, counted from 1
+abbrev pub step_lines : Content → List StepLine → List ℕ
+step_lines case steps = each (λ i x. step_line case (i + 1) x) 0 steps
 
 -- the line of a retained hypothesis
 unfoldable pub kept_line : Content → StepLine → List ℕ
@@ -74,13 +74,12 @@ reached_words reached = if reached then [] else codes " not reached"
 unfoldable pub adjusted_line : Content → ℕ → Adjusted → List ℕ
 adjusted_line case j x = line (codes "adjusted" ++ spaced_name case j ++ codes " " ++ spelling (terms x.value) ++ reached_words x.reached)
 
--- the lines of adjusted values in their order, of which the first is that of this position
-abbrev pub adjusted_lines : Content → ℕ → List Adjusted → List ℕ
-adjusted_lines case j [] = []
-adjusted_lines case j (x ∷ xs) = adjusted_line case j x ++ adjusted_lines case (j + 1) xs
+-- the lines of adjusted values in their order, of which each is that of the hypothesis at its place
+abbrev pub adjusted_lines : Content → List Adjusted → List ℕ
+adjusted_lines case values = each (adjusted_line case) 0 values
 
 -- the level, the steps, the retained hypotheses, the names of the rejected ones, the adjusted values, and the last line
 unfoldable pub test_report : Content → Decision → List Adjusted → List ℕ
 test_report case decision adjusted =
-    alpha_line case ++ step_lines case 1 decision.steps ++ flat_map (kept_line case) decision.kept
-    ++ rejected_line case decision.steps ++ adjusted_lines case 0 adjusted ++ line (codes "end")
+    alpha_line case ++ step_lines case decision.steps ++ each (λ _ x. kept_line case x) 0 decision.kept
+    ++ rejected_line case decision.steps ++ adjusted_lines case adjusted ++ line (codes "end")

@@ -1,8 +1,8 @@
 //! What the command `check` prints.
-ghost use Rattle.std.specs.Prelude.{◌≡◌, ◌<◌, ◌++◌, IfOk, OnOk, length, map};
-ghost use Rattle.std.specs.List.{All, flat_map};
+ghost use Rattle.std.specs.Prelude.{◌≡◌, ◌++◌, IfOk, OnOk, map};
+ghost use Rattle.std.specs.List.{flat_map};
 ghost use Rattle.case_model.specs.CaseView.{content};
-ghost use Rattle.evidence_check.specs.EvidenceView.{hypotheses_of, version_of, steps_of, keeps_of, IsEvidenceFor};
+ghost use Rattle.evidence_check.specs.EvidenceView.{hypotheses_of, version_of, steps_of, keeps_of};
 ghost use Rattle.report.specs.TestReport.{spaced_name};
 ghost use Rattle.report.specs.CheckReport.{listed_line, keeps_line, check_report};
 
@@ -18,7 +18,6 @@ fn put_step_names<F>(
     case: &Case,
     steps: &[ProofStep<F>],
 ) -> Result<(), NoMemory>
-    requires { All (λ s. s.hypothesis < length (content case.now).names) steps.now }
     ensures { OnOk result (text.new ≡ text.old ++ flat_map (spaced_name (content case.now)) (hypotheses_of steps.now)) }
 {
     for step in steps {
@@ -33,7 +32,6 @@ fn put_keep_names<F>(
     case: &Case,
     keeps: &[KeepProof<F>],
 ) -> Result<(), NoMemory>
-    requires { All (λ x. x.hypothesis < length (content case.now).names) keeps.now }
     ensures { OnOk result (text.new ≡ text.old ++ flat_map (spaced_name (content case.now)) (map (λ x. x.hypothesis) keeps.now)) }
 {
     for keep in keeps {
@@ -45,7 +43,6 @@ fn put_keep_names<F>(
 /// Appends the line of the hypotheses of the steps.
 #[tactic(auto, unfolding(crate::specs::CheckReport::listed_line))]
 fn put_listed<F>(text: &mut List<u8>, case: &Case, steps: &[ProofStep<F>]) -> Result<(), NoMemory>
-    requires { All (λ s. s.hypothesis < length (content case.now).names) steps.now }
     ensures { OnOk result (text.new ≡ text.old ++ listed_line (content case.now) (hypotheses_of steps.now)) }
 {
     text.append(b"listed")?;
@@ -61,7 +58,6 @@ fn put_keeps<F>(
     version: u8,
     keeps: &[KeepProof<F>],
 ) -> Result<(), NoMemory>
-    requires { All (λ x. x.hypothesis < length (content case.now).names) keeps.now }
     ensures { OnOk result (text.new ≡ text.old ++ keeps_line (content case.now) version (map (λ x. x.hypothesis) keeps.now)) }
 {
     if version != 2 {
@@ -74,8 +70,6 @@ fn put_keeps<F>(
 
 /// Appends the hypotheses of evidence: those of the steps, and those of the keeps.
 fn put_hypotheses<F>(text: &mut List<u8>, case: &Case, proof: &Steps<F>) -> Result<(), NoMemory>
-    requires steps { All (λ s. s.hypothesis < length (content case.now).names) proof.now.steps }
-    requires keeps { All (λ x. x.hypothesis < length (content case.now).names) proof.now.keeps }
     ensures { OnOk result (text.new ≡ text.old ++ (listed_line (content case.now)
         (hypotheses_of proof.now.steps) ++ keeps_line (content case.now) proof.now.version
         (map (λ x. x.hypothesis) proof.now.keeps))) }
@@ -86,7 +80,6 @@ fn put_hypotheses<F>(text: &mut List<u8>, case: &Case, proof: &Steps<F>) -> Resu
 
 /// Appends the hypotheses of evidence for a case.
 fn put_evidence(text: &mut List<u8>, case: &Case, proof: &Evidence) -> Result<(), NoMemory>
-    requires { IsEvidenceFor (content case.now) proof.now }
     ensures { OnOk result (text.new ≡ text.old ++ (listed_line (content case.now) (map (λ s. s.hypothesis)
         (steps_of proof.now)) ++ keeps_line (content case.now) (version_of proof.now)
         (map (λ x. x.hypothesis) (keeps_of proof.now)))) }
@@ -99,11 +92,8 @@ fn put_evidence(text: &mut List<u8>, case: &Case, proof: &Evidence) -> Result<()
 
 /// Returns what the command `check` prints of evidence that holds, or `NoMemory`. It is `yes`, the names of the hypotheses of the
 /// steps in their order, and in version 2 those of the keeps.
-///
-/// The evidence must be for the case.
 #[tactic(auto, unfolding(crate::specs::CheckReport::check_report))]
 pub fn check_text(alloc: Global, case: &Case, proof: &Evidence) -> Result<List<u8>, NoMemory>
-    requires { IsEvidenceFor (content case.now) proof.now }
     ensures { IfOk result (λ text. text ≡ check_report (content case.now) (version_of proof.now) (map
         (λ s. s.hypothesis) (steps_of proof.now)) (map (λ x. x.hypothesis) (keeps_of proof.now))) }
 {

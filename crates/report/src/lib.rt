@@ -8,13 +8,17 @@
 //!   `bounds_report`, `simes_report`).
 //! - `opened_text` returns the first piece of what `study` prints (`study_report`), and `put_taken`, `put_refused` and `put_shown`
 //!   append the others, one after another. When out of memory, the text stays as it was (`unchanged`).
+//! - These calls require nothing. A position past the last hypothesis has an empty name, and the p-value 0. `weights_text`,
+//!   `bounds_text` and `simes_text` require tables that are for the hypotheses of the case.
 //! - Laws in `src/laws.rt`: each line of a decision, and each rejection of a look, is of a hypothesis of its case.
 #![tactic(auto)]
 
 mod bounds;
 mod check;
+mod each;
 pub mod laws;
 mod lines;
+mod lookups;
 mod sample;
 mod simes;
 mod stages;

@@ -7,6 +7,7 @@ ghost use Rattle.case_model.specs.CaseView.{content};
 ghost use Rattle.report.specs.Deciding.{Decides};
 ghost use Rattle.report.specs.TestReport.{spaced_name, name_if, names_where, alpha_line, rejected_line};
 
+use crate::lookups::name_at;
 use case_model::Case;
 use field_core::{List, NoMemory};
 use sequential::StepLine;
@@ -20,18 +21,16 @@ pub(crate) fn put_count(text: &mut List<u8>, words: &[u8], n: usize) -> Result<(
     text.push(b'\n')
 }
 
-/// Appends a space and the name of the hypothesis at a position.
+/// Appends a space and the name of the hypothesis at a position, and the space alone past the last one.
 pub(crate) fn put_name(text: &mut List<u8>, case: &Case, j: usize) -> Result<(), NoMemory>
-    requires { j < length (content case.now).names }
     ensures { OnOk result (text.new ≡ text.old ++ spaced_name (content case.now) j) }
 {
     text.push(b' ')?;
-    text.append(case.name(j))
+    text.append(name_at(case, j))
 }
 
 /// Appends a space and the name of the hypothesis at a position if `is_put`, and else nothing.
 fn put_name_if(text: &mut List<u8>, case: &Case, j: usize, is_put: bool) -> Result<(), NoMemory>
-    requires { j < length (content case.now).names }
     ensures { OnOk result (text.new ≡ text.old ++ name_if (content case.now) j is_put) }
 {
     if !is_put {

@@ -1,41 +1,42 @@
 //! What the command `stages` prints.
-ghost use Rattle.std.specs.Prelude.{◌≡◌, ◌==◌, ◌<◌, ◌++◌, IfOk, OnOk, length};
-ghost use Rattle.std.specs.List.{All, flat_map, list_any};
+ghost use Rattle.std.specs.Prelude.{◌≡◌, ◌==◌, ◌++◌, [], IfOk, OnOk, get_or};
+ghost use Rattle.std.specs.List.{list_any};
 ghost use Rattle.case_model.specs.CaseView.{content};
-ghost use Rattle.staged_levels.specs.StudyAnswers.{IsStaged};
 ghost use Rattle.staged_levels.specs.Looks.{arrivals_of};
-ghost use Rattle.report.specs.StagesReport.{
-  AreRejectionsOf,
-  arrive_line,
-  reject_line,
-  look_lines,
-  looks_lines,
-  settled_line,
-  stages_report,
-};
+ghost use Rattle.report.specs.StagesReport.{arrive_line, reject_line, look_lines, settled_line, stages_report};
 
+use crate::each::{Printer, put_each};
 use crate::lines::{put_alpha, put_name, put_names};
 use case_model::{Arrival, Case, Inputs};
 use field_core::{List, NoMemory};
 use staged_levels::Settled;
 use std::alloc::Global;
 
-/// Returns the arrivals of a case, each of which is of a hypothesis of the case.
+/// Returns the arrivals of a case, and none if it has no stages.
 fn arrivals_of(case: &Case) -> &[Arrival]
-    requires { IsStaged (content case.now).inputs }
-    ensures arrivals { result.now ≡ arrivals_of (content case.now).inputs }
-    ensures below { All (λ a. a.hypothesis < length (content case.now).names) result.now }
+    ensures { result.now ≡ arrivals_of (content case.now).inputs }
 {
     match case.inputs() {
         Inputs::Staged(stages) => stages.arrivals(),
-        _ => unreachable!(),
+        Inputs::Bare | Inputs::Single(_) => &[],
+    }
+}
+
+/// Returns the look at a place, and an empty one past the last.
+#[tactic(auto, using(std::proofs::lemmas::List::get_or_past))]
+fn look_at(looks: &[List<Settled>], place: usize) -> &[Settled]
+    ensures { result.now ≡ get_or looks.now place [] }
+{
+    if place < looks.len() {
+        looks[place].as_slice()
+    } else {
+        &[]
     }
 }
 
 /// Appends the line of an arrival.
 #[tactic(auto, unfolding(crate::specs::StagesReport::arrive_line))]
 fn put_arrival(text: &mut List<u8>, case: &Case, arrival: &Arrival) -> Result<(), NoMemory>
-    requires { arrival.now.hypothesis < length (content case.now).names }
     ensures { OnOk result (text.new ≡ text.old ++ arrive_line (content case.now) arrival.now) }
 {
     text.append(b"arrive")?;
@@ -47,68 +48,37 @@ fn put_arrival(text: &mut List<u8>, case: &Case, arrival: &Arrival) -> Result<()
     text.push(b'\n')
 }
 
-/// Appends the line of a rejection.
-#[tactic(auto, unfolding(crate::specs::StagesReport::reject_line))]
-fn put_rejection(text: &mut List<u8>, case: &Case, rejection: &Settled) -> Result<(), NoMemory>
-    requires { rejection.now.hypothesis < length (content case.now).names }
-    ensures { OnOk result (text.new ≡ text.old ++ reject_line (content case.now) rejection.now) }
-{
-    text.append(b"reject")?;
-    put_name(text, case, rejection.hypothesis)?;
-    text.append(b" stage ")?;
-    text.append_unsigned(rejection.stage as u128)?;
-    text.append(b" weight ")?;
-    rejection.weight.print(text)?;
-    text.push(b'\n')
-}
+/// The printer of rejections.
+#[derive(Clone, Copy)]
+pub(crate) struct Rejections<'a>(pub &'a Case);
 
-/// Appends the lines of the rejections of a look.
-pub(crate) fn put_rejections(
-    text: &mut List<u8>,
-    case: &Case,
-    look: &[Settled],
-) -> Result<(), NoMemory>
-    requires { AreRejectionsOf (content case.now) look.now }
-    ensures { OnOk result (text.new ≡ text.old ++ flat_map (reject_line (content case.now)) look.now) }
-{
-    for rejection in look {
-        put_rejection(text, case, rejection)?;
+impl Printer<Settled> for Rejections<'_> {
+    ghost shown = { λ it _ rejection. reject_line (content it.0.now) rejection };
+
+    #[tactic(auto, unfolding(crate::specs::StagesReport::reject_line))]
+    fn put(&self, text: &mut List<u8>, _: usize, rejection: &Settled) -> Result<(), NoMemory> {
+        text.append(b"reject")?;
+        put_name(text, self.0, rejection.hypothesis)?;
+        text.append(b" stage ")?;
+        text.append_unsigned(rejection.stage as u128)?;
+        text.append(b" weight ")?;
+        rejection.weight.print(text)?;
+        text.push(b'\n')
     }
-    Ok(())
 }
 
-/// Appends the lines of an arrival and of the rejections that it brings.
-#[tactic(auto, unfolding(crate::specs::StagesReport::look_lines))]
-fn put_look(
-    text: &mut List<u8>,
-    case: &Case,
-    arrival: &Arrival,
-    look: &[Settled],
-) -> Result<(), NoMemory>
-    requires below { arrival.now.hypothesis < length (content case.now).names }
-    requires look { AreRejectionsOf (content case.now) look.now }
-    ensures { OnOk result (text.new ≡ text.old ++ look_lines (content case.now) arrival.now look.now) }
-{
-    put_arrival(text, case, arrival)?;
-    put_rejections(text, case, look)
-}
+/// The printer of the arrivals, each with the rejections that it brings.
+#[derive(Clone, Copy)]
+struct Looks<'a>(&'a Case, &'a [List<Settled>]);
 
-/// Appends the lines of the arrivals in their order, each with those of the rejections that it brings.
-fn put_looks(
-    text: &mut List<u8>,
-    case: &Case,
-    arrivals: &[Arrival],
-    looks: &[List<Settled>],
-) -> Result<(), NoMemory>
-    requires below { All (λ a. a.hypothesis < length (content case.now).names) arrivals.now }
-    requires count { length looks.now ≡ length arrivals.now }
-    requires looks { All (AreRejectionsOf (content case.now)) looks.now }
-    ensures { OnOk result (text.new ≡ text.old ++ looks_lines (content case.now) arrivals.now looks.now) }
-{
-    for i in 0..arrivals.len() {
-        put_look(text, case, &arrivals[i], looks[i].as_slice())?;
+impl Printer<Arrival> for Looks<'_> {
+    ghost shown = { λ it i arrival. look_lines (content it.0.now) arrival (get_or it.1.now i []) };
+
+    #[tactic(auto, unfolding(crate::specs::StagesReport::look_lines))]
+    fn put(&self, text: &mut List<u8>, place: usize, arrival: &Arrival) -> Result<(), NoMemory> {
+        put_arrival(text, self.0, arrival)?;
+        put_each(text, &Rejections(self.0), look_at(self.1, place))
     }
-    Ok(())
 }
 
 /// Whether the hypothesis at a position is rejected in a look.
@@ -138,22 +108,18 @@ fn put_settled(text: &mut List<u8>, case: &Case, looks: &[List<Settled>]) -> Res
 /// Returns what the command `stages` prints, or `NoMemory`: the level, the arrivals of the case, each with the rejections that it
 /// brings, and the names of the rejected hypotheses.
 ///
-/// The case must have stages, there must be a look for each arrival, and each rejection must be of a hypothesis of the
-/// case.
+/// An arrival without a look brings no rejections, and a case without stages has no arrivals.
 #[tactic(auto, unfolding(crate::specs::StagesReport::stages_report))]
 pub fn stages_text(
     alloc: Global,
     case: &Case,
     looks: &[List<Settled>],
 ) -> Result<List<u8>, NoMemory>
-    requires staged { IsStaged (content case.now).inputs }
-    requires count { length looks.now ≡ length (arrivals_of (content case.now).inputs) }
-    requires looks { All (AreRejectionsOf (content case.now)) looks.now }
     ensures { IfOk result (λ text. text ≡ stages_report (content case.now) looks.now) }
 {
     let mut text = List::new(alloc);
     put_alpha(&mut text, case)?;
-    put_looks(&mut text, case, arrivals_of(case), looks)?;
+    put_each(&mut text, &Looks(case, looks), arrivals_of(case))?;
     put_settled(&mut text, case, looks)?;
     text.append(b"end\n")?;
     Ok(text)

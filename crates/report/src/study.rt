@@ -1,8 +1,7 @@
 //! What the command `study` prints.
-ghost use Rattle.std.specs.Prelude.{◌≡◌, ◌<◌, ◌++◌, IfOk, OnOk, OnErr, length};
+ghost use Rattle.std.specs.Prelude.{◌≡◌, ◌++◌, IfOk, OnOk, OnErr};
 ghost use Rattle.case_model.specs.CaseView.{content};
 ghost use Rattle.report.specs.TestReport.{names_where};
-ghost use Rattle.report.specs.StagesReport.{AreRejectionsOf};
 ghost use Rattle.report.specs.StudyReport.{
   look_line,
   taken_lines,
@@ -13,8 +12,9 @@ ghost use Rattle.report.specs.StudyReport.{
   opened_lines,
 };
 
+use crate::each::put_each;
 use crate::lines::{put_alpha, put_name, put_names};
-use crate::stages::{is_among, put_rejections};
+use crate::stages::{Rejections, is_among};
 use case_model::Case;
 use field_core::{List, NoMemory};
 use fraction::Fraction;
@@ -25,7 +25,6 @@ use std::alloc::Global;
 /// Appends the line of a look.
 #[tactic(auto, unfolding(crate::specs::StudyReport::look_line))]
 fn put_look(text: &mut List<u8>, case: &Case, look: &Look) -> Result<(), NoMemory>
-    requires { look.now.hypothesis < length (content case.now).names }
     ensures { OnOk result (text.new ≡ text.old ++ look_line (content case.now) look.now) }
 {
     text.append(b"look")?;
@@ -46,14 +45,12 @@ pub fn put_taken(
     look: &Look,
     rejections: &[Settled],
 ) -> Result<(), NoMemory>
-    requires below { look.now.hypothesis < length (content case.now).names }
-    requires rejections { AreRejectionsOf (content case.now) rejections.now }
     ensures put { OnOk result (text.new ≡ text.old ++ taken_lines (content case.now) look.now rejections.now) }
     ensures unchanged { OnErr result (text.new ≡ text.old) }
 {
     let mut lines = List::new(alloc);
     put_look(&mut lines, case, look)?;
-    put_rejections(&mut lines, case, rejections)?;
+    put_each(&mut lines, &Rejections(case), rejections)?;
     text.append(lines.as_slice())
 }
 

@@ -1,34 +1,32 @@
 -- Lines of commands, read one by one.
 use Rattle.std.proofs.Common.{◌≡◌, ◌⊎◌, ℕ, inl, inr, List, [], ◌∷◌, ◌++◌, length, Option, Some, None, Result, Ok, Err, refl, sym, ap, ap₂, subst, ◌∙◌}
-use Rattle.std.specs.List.{AllByRecursion, AllZip}
+use Rattle.std.specs.List.{AllByRecursion}
 use Rattle.std.specs.Option.{option_map}
 use Rattle.std.specs.Prelude.{IfOk, codes}
-use Rattle.field_core.specs.Answers.{mapped, IsUnless, told_as}
+use Rattle.field_core.specs.Answers.{IsUnless, told_as}
 use Rattle.field_core.proofs.Results.{made_of, same_value, same_fault}
 use Rattle.text_lines.specs.Faults.{FaultAt}
 use Rattle.text_lines.specs.Forms.{Say, Seen, AreMany, Is, reading, texts_seen}
-use Rattle.text_lines.specs.Kinds.{either_of, expected, keyed_line, more_lines}
+use Rattle.text_lines.specs.Kinds.{either_of, expected, more_lines}
 use Rattle.text_lines.specs.Lines.{Row, rows_of, texts_in, end_of}
 use Rattle.text_lines.specs.Words.{words_of, words_after}
 use Rattle.text_lines.proofs.FormFaults.{faults_end, none_is_fault}
 use Rattle.text_lines.proofs.FormLines.{lines_step, lines_taken, lines_can}
 use Rattle.text_lines.proofs.FormReads.{reading_as}
-use Rattle.text_lines.proofs.Keywords.{keyword_found}
 use Rattle.edge_text.specs.Document.{kinds}
-use Rattle.edge_text.specs.Grammar.{Words, IsArrival}
+use Rattle.edge_text.specs.Grammar.{Words}
 use Rattle.edge_text.specs.WordReading.{arrival}
 use Rattle.edge_text.specs.declared.fault.LineKind.{LineKind}
 use Rattle.edge_text.specs.declared.fault.LineKind.TheVariants.{WordCount}
 use Rattle.text_lines.proofs.Written.{lines_in}
 use Rattle.edge_text.proofs.FormSpells.{spells_lines, spelt_document}
-use Rattle.edge_text.proofs.Leaves.{arrival_said, arrival_is}
-use Rattle.edge_text.proofs.LinesSaid.{line_said}
+use Rattle.edge_text.proofs.Leaves.{arrival_is}
 use Rattle.study_cli.specs.declared.command.StudyCommand.{StudyCommand}
-use Rattle.study_cli.specs.declared.command.StudyCommand.TheVariants.{Take, Show}
+use Rattle.study_cli.specs.declared.command.StudyCommand.TheVariants.{Show}
 use Rattle.study_cli.specs.declared.fault.CommandsFault.{CommandsFault}
 use Rattle.study_cli.specs.declared.fault.CommandsFault.TheVariants.{Line, NoMemory}
 use Rattle.study_cli.specs.CommandFaults.{IsFirstFault, on_line}
-use Rattle.study_cli.specs.CommandLines.{arrival_of, IsCommandLine, AreCommandLines, AreCommands, IsBelow}
+use Rattle.study_cli.specs.CommandLines.{IsCommandLine, AreCommandLines, AreCommands, IsBelow}
 use Rattle.study_cli.specs.CommandStatements.{CommandsAreOfLines, IsFirstBadLine, FaultsAreBadLines, FaultsAreFirst}
 use Rattle.study_cli.specs.Commands.{taking, look, show, command, commands, commands_of}
 use Rattle.study_cli.proofs.LookPlaces.{place_below}
@@ -37,46 +35,7 @@ some_result : {A : Type 0} (x y : Result A LineKind) → ◌≡◌ {A = Option (
 some_result x y e = cc
 
 module _ (names : Words) where
-  -- ---- lines
-
-  -- words of a look
-  abbrev IsLook : Words → StudyCommand → Type 0
-  IsLook words (Take l) = IsArrival names words (arrival_of l)
-  IsLook words Show = ⊥
-
-  look_said : (words : Words) (c : StudyCommand) → IsLook words c → look names words ≡ Ok c
-  look_said words (Take l) h = ap (mapped taking) (arrival_said names words (arrival_of l) h)
-  look_said words Show h = absurd h
-
-  look_is : (line : List ℕ) (words : Words) (c : StudyCommand) → words_of line ≡ codes "look" ∷ words → look names words ≡ Ok c → IsCommandLine names line c
-  look_is line words c w e =
-      let a = made_of taking (arrival names words) c e in
-      subst (IsCommandLine names line) (sym a.2) (record { behind = words; words = w; are = arrival_is names words a.0 a.1 })
-
-  command_said : (line : List ℕ) (c : StudyCommand) → IsCommandLine names line c → command names line ≡ Some (Ok c)
-  command_said line (Take l) h = ap (λ o. either_of o (keyed_line (codes "show") show line))
-      (line_said {Are = IsLook} (codes "look") (look names) look_said line (Take l) h)
-  command_said line Show h =
-      ap (λ ws. either_of (option_map (look names) (words_after (codes "look") ws)) (option_map show (words_after (codes "show") ws))) h
-
-  command_is : (line : List ℕ) (c : StudyCommand) → command names line ≡ Some (Ok c) → IsCommandLine names line c
-  command_is line c e = by (words_after (codes "look") (words_of line)) (words_after (codes "show") (words_of line)) refl refl e
-    where
-      by : (looks shows : Option Words) → looks ≡ words_after (codes "look") (words_of line) → shows ≡ words_after (codes "show") (words_of line)
-          → either_of (option_map (look names) looks) (option_map show shows) ≡ Some (Ok c) → IsCommandLine names line c
-      by (Some words) shows f g q = look_is line words c (keyword_found (codes "look") (words_of line) words f) (some_result (look names words) (Ok c) q)
-      by None (Some []) f g q = subst (IsCommandLine names line) (same_value Show c (some_result (Ok Show) (Ok c) q)) (keyword_found (codes "show") (words_of line) [] g)
-      by None (Some (word ∷ words)) f g q =
-          absurd (let k : ◌≡◌ {A = Result StudyCommand LineKind} (Err WordCount) (Ok c) = some_result (Err WordCount) (Ok c) q in cc)
-      by None None f g q = absurd (cc)
-
   -- ---- all lines
-
-  zip_said : (lines : Words) (cs : List StudyCommand) → AreCommandLines names lines cs → AllZip (λ line c. command names line ≡ Some (Ok c)) lines cs
-  zip_said [] [] h = tt
-  zip_said [] (c ∷ cs) h = absurd h
-  zip_said (line ∷ lines) [] h = absurd h
-  zip_said (line ∷ lines) (c ∷ cs) h = (command_said line c h.0, zip_said lines cs h.1)
 
   many_are : (before cs : List StudyCommand) (rows : List Row) (rest : List (Seen (List ℕ))) → rest ≡ []
       → AreMany (command names) (λ ys a. Is {L = List ℕ} {K = LineKind} (Say a)) before (texts_seen rows) cs rest → AreCommandLines names (texts_in rows) cs
@@ -88,7 +47,7 @@ module _ (names : Words) where
       let first : record { number = row.number; line = row.text } ≡ m.3.row = cc in
       let others : texts_seen rows ≡ m.1 = cc in
       let says : command names row.text ≡ Some (Ok m.0) = ap (λ (s : Seen (List ℕ)). command names s.line) first ∙ m.3.says in (
-        command_is row.text c (says ∙ ap (λ a. Some (Ok a)) (sym m.4.0)),
+        says ∙ ap (λ a. Some (Ok a)) (sym m.4.0),
         many_are (before ++ c ∷ []) cs rows rest e
             (subst (λ rs. AreMany (command names) (λ ys a. Is {L = List ℕ} {K = LineKind} (Say a)) (before ++ c ∷ []) rs cs rest) (m.4.1 ∙ sym others) m.5),
       )
@@ -119,7 +78,7 @@ module _ (names : Words) where
     rows_are = ap (λ rs. row ∷ rs) b.rows_are;
     number_is = b.number_is;
     said = c ∷ b.said;
-    commands = (command_is row.text c e, b.commands);
+    commands = (e, b.commands);
     bad = b.bad;
   }
 
@@ -156,14 +115,26 @@ module _ (names : Words) where
       lines_step kinds (command names) before (record { number = row.number; line = row.text }) (texts_seen after) end ∙ (rw bad refl)
   line_bad before (x ∷ xs) row after [] end kind h bad = absurd h
   line_bad before (x ∷ xs) row after (c ∷ said) end kind h bad =
-      lines_taken kinds (command names) before (record { number = x.number; line = x.text }) (texts_seen (xs ++ row ∷ after)) end c (ap (expected kinds) (command_said x.text c h.0))
+      lines_taken kinds (command names) before (record { number = x.number; line = x.text }) (texts_seen (xs ++ row ∷ after)) end c (ap (expected kinds) h.0)
       ∙ line_bad (before ++ c ∷ []) xs row after said end kind h.1 bad
 
   -- ---- looks
 
+  look_below : (words : Words) (c : StudyCommand) → look names words ≡ Ok c → IsBelow (length names) c
+  look_below words c e =
+      let a = made_of taking (arrival names words) c e in
+      let is = arrival_is names words a.0 a.1 in
+      subst (IsBelow (length names)) (sym a.2) (place_below is.name names a.0.hypothesis (sym is.name_is))
+
   below : (line : List ℕ) (c : StudyCommand) → IsCommandLine names line c → IsBelow (length names) c
-  below line (Take l) h = place_below h.are.name names l.hypothesis (sym h.are.name_is)
-  below line Show h = tt
+  below line c e = by (words_after (codes "look") (words_of line)) (words_after (codes "show") (words_of line)) e
+    where
+      by : (looks shows : Option Words) → either_of (option_map (look names) looks) (option_map show shows) ≡ Some (Ok c) → IsBelow (length names) c
+      by (Some words) shows q = look_below words c (some_result (look names words) (Ok c) q)
+      by None (Some []) q = subst (IsBelow (length names)) (same_value Show c (some_result (Ok Show) (Ok c) q)) tt
+      by None (Some (word ∷ words)) q =
+          absurd (let k : ◌≡◌ {A = Result StudyCommand LineKind} (Err WordCount) (Ok c) = some_result (Err WordCount) (Ok c) q in cc)
+      by None None q = absurd (cc)
 
   all_below : (lines : Words) (cs : List StudyCommand) → AreCommandLines names lines cs → AllByRecursion (IsBelow (length names)) cs
   all_below [] [] h = tt
@@ -180,7 +151,7 @@ commands_of_lines names bytes cs =
           let d = read.0 e in
           subst (AreCommandLines names (texts_in rows)) (sym d.1) (many_are names [] d.0 rows [] refl d.2)),
       (λ h. read.1 (spelt_document (commands names) (texts_in rows) cs (texts_seen rows)
-          (spells_lines (command names) [] (texts_in rows) cs [] (zip_said names (texts_in rows) cs h) tt) (seen_texts names rows))),
+          (spells_lines (command names) [] (texts_in rows) cs [] h tt) (seen_texts names rows))),
     )
 
 pub faults_of_lines : FaultsAreBadLines

@@ -9,9 +9,7 @@ use Rattle.field_core.specs.declared.place.WideAt.{WideAt}
 use Rattle.graph_io.specs.declared.keeper.Look.{Look}
 use Rattle.graph_io.specs.Keeping.{with_look}
 use Rattle.case_model.specs.Content.{Content}
-use Rattle.report.specs.StagesReport.{AreRejectionsOf}
 use Rattle.report.specs.StudyReport.{Reply, taken, refused, shown, reply_lines, taken_lines, refused_line, shown_line}
-use Rattle.report.proofs.LooksOfCase.{look_below}
 use Rattle.staged_levels.specs.declared.event.Settled.{Settled}
 use Rattle.staged_levels.specs.declared.event.StepFault.{StepFault}
 use Rattle.staged_levels.specs.Looks.{IsWideLook}
@@ -64,9 +62,6 @@ behind_append (r ∷ rs) xs = behind_append rs xs
 module _ (c : Content) (old new : StudyState) (l : Look) (T : Takes c old l new) where
   pub brought : drop (length old.rejected) new.rejected ≡ T.0
   brought = ap (drop (length old.rejected)) T.1.rejected ∙ behind_append old.rejected T.0
-
-  pub brought_below : AreRejectionsOf c (drop (length old.rejected) new.rejected)
-  brought_below = subst (AreRejectionsOf c) (sym brought) (look_below c old new (arrival_of l) T.0 T.1)
 
 -- ---- one command
 

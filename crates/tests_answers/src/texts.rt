@@ -1,9 +1,6 @@
 //! Reports written by hand.
-ghost use Rattle.std.specs.Prelude.{◌≡◌, true, None, IfOk, IsTrue, nat_lt};
-ghost use Rattle.std.specs.List.{list_all};
+ghost use Rattle.std.specs.Prelude.{◌≡◌, true, None, IfOk};
 ghost use Rattle.case_model.specs.Draft.{have_known_ends, have_known_arrivals};
-ghost use Rattle.case_model.specs.CaseView.{content};
-ghost use Rattle.report.specs.TestReport.{AreOfCase};
 
 use adjusted_p::Adjusted;
 use case_model::{Case, Draft, DraftComponent, SetTable};
@@ -13,7 +10,7 @@ use field_core::{List, NoMemory, Number, Text};
 use fraction::{Fraction, FractionFault};
 use graph_io::Look;
 use report::{check_text, opened_text, put_refused, put_shown, put_taken, simes_text, test_text};
-use sequential::{Decision, StepLine, is_single};
+use sequential::{Decision, StepLine};
 use staged_levels::{Settled, StepFault};
 use std::alloc::Global;
 use std::process::Abort;
@@ -283,30 +280,13 @@ fn case(alloc: Global, row: &Row) -> Result<Case, Fail> {
     }
 }
 
-/// Whether each line is of one of a number of hypotheses.
-fn are_below(lines: &[StepLine], count: usize) -> bool
-    ensures { result ≡ list_all (λ line. nat_lt line.hypothesis count) lines.now }
-{
-    lines.iter().all(|line| line.hypothesis < count)
-}
-
-fn are_of_case(case: &Case, lines: &[StepLine]) -> bool
-    ensures { IsTrue result → AreOfCase (content case.now) lines.now }
-{
-    are_below(lines, case.size())
-}
-
 fn expect(rt: &impl Abort, alloc: Global, row: &Row) -> Result<(), Fail> {
     let case = case(alloc, row)?;
     let decision = Decision {
         steps: lines(alloc, row.steps)?,
         kept: lines(alloc, row.kept)?,
     };
-    assert!(rt; is_single(&case));
-    assert!(rt; are_of_case(&case, decision.steps.as_slice()));
-    assert!(rt; are_of_case(&case, decision.kept.as_slice()));
     let values = values(alloc, row.adjusted)?;
-    assert!(rt; values.len() == case.size());
     let text = test_text(alloc, &case, &decision, values.as_slice())?;
     assert!(rt; text.as_slice() == row.text.as_bytes(), "{}", row.text);
     Ok(())
@@ -409,7 +389,6 @@ fn a_look_without_rejections(rt: HostRuntime) -> Result<(), Fail> {
         stage: 2,
         p: fraction((3, 100))?.ratio(),
     };
-    assert!(rt; 1 < case.size());
     let mut text = List::new(rt.alloc());
     put_taken(rt.alloc(), &mut text, &case, &look, &[])?;
     put_shown(rt.alloc(), &mut text, &case, 1, &[])?;

@@ -40,7 +40,6 @@ fn answer_to(
     proof: &Evidence,
     verdict: Verdict,
 ) -> Result<Answer, NoMemory>
-    requires { IsEvidenceFor (content case.now) proof.now }
     ensures { IfOk result (λ answer. answer ≡ answer_to (content case.now) (said_of proof.now) verdict) }
 {
     match verdict {

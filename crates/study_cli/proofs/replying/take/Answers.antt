@@ -2,24 +2,15 @@ use Rattle.std.proofs.Common.{◌+◌, [], ◌∷◌, ◌++◌, Err, sym, ap, ap
 use Rattle.std.proofs.lemmas.Result.{err_from_is_err_and}
 use Rattle.graph_io.specs.Causes.{Rose}
 use Rattle.case_model.specs.CaseView.{content}
-use Rattle.report.specs.StagesReport.{AreRejectionsOf}
 use Rattle.report.specs.StudyReport.{refused_line}
 use Rattle.study_cli.specs.declared.command.StudyCommand.TheVariants.{Take as AskTake}
 use Rattle.study_register.specs.RegisterFaults.{turns_of}
 use Rattle.study_register.specs.RegisterView.{looks_in}
 use Rattle.study_cli.specs.AnswerView.{StopsCommands}
 use Rattle.study_cli.specs.declared.replying.CommandStop.TheVariants.{Wide}
-use Rattle.study_cli.proofs.CommandsReplied.{added_refused, added_turns, added_wide, brought, brought_below, taken_written, refused_written, holds_none}
+use Rattle.study_cli.proofs.CommandsReplied.{added_refused, added_turns, added_wide, brought, taken_written, refused_written, holds_none}
 use Rattle.study_cli.proofs.CommandsReplied.{holds_one, stops_wide, stops_failed, wide_turns, failed_turns, added_failed}
 use Rattle.study_cli.proofs.replying.take.Goals as goal
-
-pub put_taken-requires-clause-rejections : goal.put_taken-requires-clause-rejections
-put_taken-requires-clause-rejections g c =
-    let k = content c.args.case.now in
-    let old = looks_in c.args.register.now in
-    let new = looks_in c.add.new.self in
-    let same = c.settled_after-rejections.ensures ∙ ap₂ drop (ap length c.settled-before.ensures.value) c.settled.ensures.value in
-    subst (AreRejectionsOf k) (sym same) (brought_below k old new c.args.look.now (c.in-Ok.ensures.taken k c.requires.study))
 
 pub returns-in_ok-put_taken-in-Ok-clause-replied : goal.returns-in_ok-put_taken-in-Ok-clause-replied
 returns-in_ok-put_taken-in-Ok-clause-replied g c =
