@@ -4,6 +4,7 @@ ghost use Rattle.answers_exist.specs.Runs.{DecisionsEnd, AdjustedRunsEnd, LooksE
 
 /// For all words, cases and proofs there is an answer that they require. If contracts see the bytes of the case and of the proof,
 /// there is no other, by `calls_have_one_answer` of `graph_cli`.
+#[tactic(auto, using(crate::proofs::Calls::calls_have_an_answer))]
 pub fn calls_have_an_answer()
     ensures { CallsHaveAnAnswer }
 {}

@@ -82,6 +82,7 @@ pub fn stages_agree_in_every_order()
 /// What `study` prints with status 0 is the report of the replies to its commands. Each line `show` names exactly what the
 /// staged closed test rejects on the looks that are kept at this point. The lines `reject` after a look name what the test
 /// rejects with this look, in addition to what it rejected before.
+#[tactic(auto, using(crate::proofs::StudyPrinted::studies_of_test))]
 pub fn studies_are_of_the_staged_test()
     ensures { StudiesAreOfTheStagedTest }
 {}

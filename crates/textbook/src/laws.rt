@@ -8,6 +8,7 @@ ghost use Rattle.textbook.specs.Gatekeeping.{GatekeepingGraphsDecideAsGatekeepin
 
 /// On the graphs of Holm's rule, of the fixed sequence, of fallback and of parallel gatekeeping no removal and no level is
 /// refused, in whatever order hypotheses are removed. The weights of fallback have a common denominator of at most 100,000,000.
+#[tactic(auto, using(crate::proofs::HolmRuns::holm_removals, crate::proofs::SequenceRuns::sequence_removals))]
 pub fn textbook_removals_are_defined()
     ensures holm { HolmRemovalsAreDefined }
     ensures sequence { SequenceRemovalsAreDefined }
@@ -16,6 +17,7 @@ pub fn textbook_removals_are_defined()
 {}
 
 /// On cases of these graphs, without epsilon, no decision by any priority is too wide, and no adjusted values are.
+#[tactic(auto, using(crate::proofs::NeverWide::holm_decisions, crate::proofs::NeverWide::sequence_decisions))]
 pub fn textbook_decisions_are_defined()
     ensures holm { HolmDecisionsAreDefined }
     ensures sequence { SequenceDecisionsAreDefined }

@@ -30,6 +30,7 @@ pub fn textbook_graphs_are_valid()
 
 /// The positions by ascending p-value are all positions, in this order, ties by position; and there is exactly one number of
 /// them that Holm's rule rejects.
+#[tactic(auto, using(case_model::proofs::ByPValue::by_p_value_length, case_model::proofs::ByPValue::by_p_value_below, case_model::proofs::ByPValue::by_p_value_all, case_model::proofs::ByPValue::by_p_value_ordered, case_model::proofs::HolmNumbers::one_number))]
 pub fn holm_numbers_exist()
     ensures order { PositionsAreAscending }
     ensures number { HasOneHolmNumber }
