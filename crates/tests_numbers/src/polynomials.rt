@@ -45,7 +45,7 @@ const PRODUCT: Listed = &[MOST, 1 - MOST, -MOST, -2, -1];
 
 /// An operation on two polynomials, and its result; `None` if it is refused. A quotient is exact, and `None` if no exact one
 /// exists.
-const OPERATIONS: &[(Listed, Op, Listed, Option<Listed>)] = &[
+const OPERATIONS: &[(Listed, Op, Listed, Option<Listed>)] = table! {
     // at the limit of a size
     (&[MOST - 1, 3, -4], Op::Add, &[1, -5], Some(&[MOST, -2, -4])),
     (&[MOST - 1, 3, -4], Op::Add, &[2], None),
@@ -54,20 +54,10 @@ const OPERATIONS: &[(Listed, Op, Listed, Option<Listed>)] = &[
     (&[1, 1], Op::Mul, &[1, -1], Some(&[1, 0, -1])),
     (&[2, 3], Op::Mul, &[5, 7, 11], Some(&[10, 29, 43, 33])),
     (&[], Op::Mul, &[1, 1], Some(&[])),
-    (
-        &[1 << 64],
-        Op::Mul,
-        &[(1 << 63) - 1],
-        Some(&[MOST - ((1 << 64) - 1)]),
-    ),
+    (&[1 << 64], Op::Mul, &[(1 << 63) - 1], Some(&[MOST - ((1 << 64) - 1)])),
     (&[1 << 64], Op::Mul, &[1 << 63], None),
     (&[1 << 126, 1 << 126], Op::Mul, &[1, 1], None),
-    (
-        &[1 << 126, 1 << 126],
-        Op::Mul,
-        &[1, -1],
-        Some(&[1 << 126, 0, -(1 << 126)]),
-    ),
+    (&[1 << 126, 1 << 126], Op::Mul, &[1, -1], Some(&[1 << 126, 0, -(1 << 126)])),
     // the sizes of partial sums are tested in their order
     (SHORT, Op::Mul, LONG, Some(PRODUCT)),
     (LONG, Op::Mul, SHORT, None),
@@ -81,7 +71,7 @@ const OPERATIONS: &[(Listed, Op, Listed, Option<Listed>)] = &[
     (&[1, 0, -1], Op::Div, &[1, 2], None),
     (&[1, 0, -1], Op::Div, &[0, 1], None),
     (&[1], Op::Div, &[1, 1], None),
-];
+};
 
 fn written(rt: &impl Abort, p: &EpsPoly, op: Op, q: &EpsPoly) -> Option<EpsPoly> {
     match op {
@@ -134,15 +124,8 @@ struct Factored {
     core: Option<Listed>,
 }
 
-const FACTORED: &[Factored] = &[
-    Factored {
-        of: &[0, -6, 9],
-        content: 3,
-        lowest: -6,
-        factor: -3,
-        power: Some(1),
-        core: Some(&[2, -3]),
-    },
+const FACTORED: &[Factored] = table! {
+    Factored { of: &[0, -6, 9], content: 3, lowest: -6, factor: -3, power: Some(1), core: Some(&[2, -3]) },
     Factored {
         of: &[
             0, 0, 0, 0, 0, 0, 0, 0, 0, 0, 0, 0, 0, 0, 0, 0, 0, 0, 0, 0, 0, 0, 0, 0, 0, 0, 0, 0, 0,
@@ -154,23 +137,9 @@ const FACTORED: &[Factored] = &[
         power: Some(32),
         core: Some(&[1]),
     },
-    Factored {
-        of: &[-MOST, MOST],
-        content: MOST as u128,
-        lowest: -MOST,
-        factor: -MOST,
-        power: Some(0),
-        core: Some(&[1, -1]),
-    },
-    Factored {
-        of: &[],
-        content: 0,
-        lowest: 0,
-        factor: 0,
-        power: None,
-        core: None,
-    },
-];
+    Factored { of: &[-MOST, MOST], content: MOST as u128, lowest: -MOST, factor: -MOST, power: Some(0), core: Some(&[1, -1]) },
+    Factored { of: &[], content: 0, lowest: 0, factor: 0, power: None, core: None },
+};
 
 fn core(p: &EpsPoly) -> Option<EpsPoly> {
     if p.is_zero() {

@@ -103,7 +103,7 @@ const LAST: Terms = (
 );
 
 /// An operation on two quotients, and its result as it is stored; `None` if it is refused.
-const OPERATIONS: &[(Terms, Op, Terms, Option<Terms>)] = &[
+const OPERATIONS: &[(Terms, Op, Terms, Option<Terms>)] = table! {
     (HALF, Op::Add, THIRD, Some((&[5], &[6]))),
     (LESS, Op::Add, LESS, Some((&[2, -2], ONE))),
     // over the same denominator: e/(1 + e) + 1/(1 + e)
@@ -124,20 +124,10 @@ const OPERATIONS: &[(Terms, Op, Terms, Option<Terms>)] = &[
     (WIDEST, Op::Sub, (&[-1], ONE), None),
     (MORE, Op::Mul, LESS, Some((&[1, 0, -1], ONE))),
     // each numerator is lowered with the other denominator
-    (
-        (&[2], &[1, 1]),
-        Op::Mul,
-        (&[1, 1], &[3]),
-        Some((&[2], &[3])),
-    ),
+    ((&[2], &[1, 1]), Op::Mul, (&[1, 1], &[3]), Some((&[2], &[3]))),
     ((&[0, 1], &[2]), Op::Mul, (&[2], &[0, 1]), Some(UNIT)),
     // other common factors stay
-    (
-        (&[1, 0, -1], ONE),
-        Op::Mul,
-        OVER_MORE,
-        Some((&[1, 0, -1], &[1, 1])),
-    ),
+    ((&[1, 0, -1], ONE), Op::Mul, OVER_MORE, Some((&[1, 0, -1], &[1, 1]))),
     (WIDEST, Op::Mul, NOTHING, Some(NOTHING)),
     (NOTHING, Op::Mul, WIDEST, Some(NOTHING)),
     (WIDEST, Op::Mul, UNIT, Some(WIDEST)),
@@ -153,7 +143,7 @@ const OPERATIONS: &[(Terms, Op, Terms, Option<Terms>)] = &[
     (NOTHING, Op::Div, LESS, Some(NOTHING)),
     (WIDEST, Op::Div, UNIT, Some(WIDEST)),
     (WIDEST, Op::Div, HALF, None),
-];
+};
 
 #[test]
 fn operations_are_stored(rt: HostRuntime) {
@@ -295,7 +285,7 @@ fn quotients_are_printed(rt: HostRuntime) {
 }
 
 /// Texts and the quotients that are read from them, if any.
-const READ: &[(&str, Option<Terms>)] = &[
+const READ: &[(&str, Option<Terms>)] = table! {
     ("0", Some(NOTHING)),
     ("-0", Some(NOTHING)),
     ("007", Some((&[7], ONE))),
@@ -327,16 +317,10 @@ const READ: &[(&str, Option<Terms>)] = &[
     ("[1 ]/[1]", None),
     ("[+1]/[1]", None),
     // both parts are past their size, though the quotient isn't
-    (
-        "170141183460469231731687303715884105728/170141183460469231731687303715884105728",
-        None,
-    ),
+    ("170141183460469231731687303715884105728/170141183460469231731687303715884105728", None),
     // the degree would be 33
-    (
-        "[0,0,0,0,0,0,0,0,0,0,0,0,0,0,0,0,0,0,0,0,0,0,0,0,0,0,0,0,0,0,0,0,0,1]/[1]",
-        None,
-    ),
-];
+    ("[0,0,0,0,0,0,0,0,0,0,0,0,0,0,0,0,0,0,0,0,0,0,0,0,0,0,0,0,0,0,0,0,0,1]/[1]", None),
+};
 
 #[test]
 fn texts_are_read(rt: HostRuntime) {
