@@ -9,7 +9,7 @@
 # by graph_test_many, and by graph_test and plain R a trial, which are measured on 5,000 of the trials and multiplied by 20. The
 # package `welungad` has to be installed with the C library; without it the numbers that need it are NA. The gate requires none
 # of these figures. A third table has the seconds of all intersections of sixteen hypotheses (graph_test_closure, graph_simes and
-# graph_weights), and of the graphs of a decision of 64 (graph_steps): on Holm's graph, and on one whose numbers are all different.
+# graph_weights), and of the graphs of a decision of 64 (graph_steps): on Holm's graph, and on one whose weights are all different.
 library(welungad)
 
 program <- commandArgs(TRUE)
@@ -149,13 +149,13 @@ if ("library" %in% ways) {
 
 # ---- all intersections, and graphs after rejections
 
-# A graph whose weights and edges are different fractions.
+# A graph whose weights are different fractions. With different edges too, 16 hypotheses are too wide.
 different <- function(n) {
   set.seed(n)
-  edges <- matrix(sample(1:99, n * n, replace = TRUE), n)
-  diag(edges) <- 0
   weights <- sample(1:99, n)
-  graph_create(as_exact(gmp::as.bigq(weights, sum(weights))), matrix(paste0(edges, "/", rowSums(edges)), n))
+  edges <- matrix(paste0("1/", n - 1), n, n)
+  diag(edges) <- "0"
+  graph_create(as_exact(gmp::as.bigq(weights, sum(weights))), edges)
 }
 
 # The least of three rounds, in seconds.
@@ -176,7 +176,7 @@ set_row <- function(name, make) {
 
 for (way in ways) {
   options(welungad.way = way)
-  table <- rbind(set_row("Holm", graph_holm), set_row("different", different))
+  table <- rbind(set_row("Holm", graph_holm), set_row("different weights", different))
   names(table) <- c("graph", "graph_test_closure", "graph_simes", "graph_weights", "graph_steps of 64")
   cat("seconds for all intersections of 16, and for graphs of 64, by the ", way, "\n", sep = "")
   print(format(table, digits = 2), row.names = FALSE)

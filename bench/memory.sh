@@ -1,12 +1,19 @@
 #!/bin/sh
 # Measures the most memory that the program takes over inputs of 4 MiB of one kind: of two million empty records, or two million
 # values `0`, among others. Prints it, by the byte of the input, with the status and the line of the run, and ends with status 1
-# if it is above 60 bytes a byte. The gate does not run it. Needs /usr/bin/time.
+# if it is above 60 bytes a byte. The gate does not run it. Needs /usr/bin/time; ends with 77 and a line if it or the program is missing.
 #
 #     bench/memory.sh [PROGRAM]
 set -eu
 here=$(dirname -- "$(readlink -f -- "$0")")
 program=${1:-$here/../crates/welungad/out/welungad}
+missing=
+[ -x /usr/bin/time ] || missing=/usr/bin/time
+[ -x "$program" ] || missing="${missing:+$missing, }the built program"
+if [ -n "$missing" ]; then
+    echo "bench/memory.sh: skipped, since this is missing: $missing"
+    exit 77
+fi
 out=$here/out
 mkdir -p "$out"
 python3 - "$out" <<'END'
@@ -62,8 +69,8 @@ for file in "$out"/wide-*; do
     *.json) words='test --form json' ;;
     *) words='test' ;;
     esac
-    # shellcheck disable=SC2086
     status=0
+    # shellcheck disable=SC2086
     /usr/bin/time -o "$out/most" -f %M "$program" $words <"$file" >"$out/printed" || status=$?
     most=$(tail -1 "$out/most")
     bytes=$(wc -c <"$file")

@@ -37,7 +37,7 @@ NO_READINGS = [math.nan, math.inf, -math.inf, -0.5, -5e-324, math.nextafter(1, 2
 
 def library():
     """Loads the library."""
-    loaded = ctypes.CDLL(_library._found())
+    loaded = ctypes.CDLL(_library.library_path() or _library.LIBRARY)
     loaded.welungad_read.restype = loaded.welungad_test_rows.restype = ctypes.c_uint8
     return loaded
 

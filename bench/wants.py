@@ -416,9 +416,10 @@ class Tests:
         how = {**os.environ, "RT_ALLOW_C": "wants", "CFLAGS": flags}
         words = ["--test", "--seconds", str(SECONDS)]
         if self.crate in ACCEPTANCE:
-            # (the smallest table shows that the program is built; all of them are run afterwards, one by one)
+            # (the smallest table shows that the program is built, which is kept by the first switch that it comes to; all of the tables
+            # are run afterwards, one by one)
             data = f"{TOP}/crates/{self.crate}/data"
-            table = min(tables_of(self.crate), key=lambda it: os.path.getsize(f"{data}/{it}"))
+            table = min(self.tables or tables_of(self.crate), key=lambda it: os.path.getsize(f"{data}/{it}"))
             words = ["--seconds", "900", "--data", f"{table}={data}/{table}", "--", table]
         built = subprocess.run(
             ["nice", "-n", "5", "rt", "try", *words],

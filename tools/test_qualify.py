@@ -44,8 +44,7 @@ class Calls(unittest.TestCase):
         self.assertEqual(set(os.listdir(os.path.join(TOP, "examples"))) - read, {"README.md"})
         self.assertEqual({call.words[0] for call in calls if not call.case}, {"catalogue", "sample"})
         self.assertTrue(all(call.wanted for call in calls))
-        commands = {words.split()[0] for words in test_tools.content("docs", "REPORTS.md").split("prints the commands")[1].split("\n\n")[1].splitlines()}
-        self.assertEqual(commands - {call.words[0] for call in calls}, {"help", "end"})
+        self.assertEqual(test_tools.COMMANDS - {call.words[0] for call in calls}, set())
 
     def test_report(self):
         """Whether a report has each comparison, what failed first, and lines to sign; and what is in it is never taken as markup."""

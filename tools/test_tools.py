@@ -15,11 +15,12 @@ from fractions import Fraction
 
 TOOLS = os.path.dirname(os.path.abspath(__file__))
 TOP = os.path.dirname(TOOLS)
-sys.path += [os.path.join(TOP, "python", "tests"), os.path.join(TOP, "python")]
+sys.path += [os.path.join(TOP, "python", "tests"), os.path.join(TOP, "python"), os.path.join(TOP, "bench")]
 
 import acceptance_rows  # noqa: E402
 import check_evidence  # noqa: E402
 import closed_test  # noqa: E402
+import hostile  # noqa: E402
 from staged_case import staged_case_of  # noqa: E402
 from welungad import _picture  # noqa: E402
 from welungad._case import edge_of, read_canonical  # noqa: E402
@@ -65,6 +66,8 @@ def rows_of(text):
 
 
 ROWS = rows_of(content("crates", "acceptance", "data", "examples.rows"))
+HELP = next(row.blocks["ends"] for row in rows_of(content("crates", "acceptance", "data", "devices.rows")) if row.words == ["help"])
+COMMANDS = {line.split()[0] for line in HELP} - {"help", "end"}
 DECIDED = [row for row in ROWS if row.words[0] == "test" and "json" not in row.words and row.blocks["ends"][-1] == "end"]
 
 
@@ -629,11 +632,18 @@ class Manual(unittest.TestCase):
     def test_page(self):
         """Whether the manual page has each command with an example, and each status."""
         page = content("docs", "welungad.1").replace("\\-", "-")
-        for command in "test weights bounds simes evidence check stages study canon catalogue sample".split():
+        for command in COMMANDS:
             self.assertRegex(page, rf"(?m)^\.BI? {command}( |$)")
             self.assertRegex(page, rf"(?m)^\$ welungad {command}( |$)")
         for status in range(11):
             self.assertIn(f"\n.TP\n.B {status}\n", page)
+
+    def test_help(self):
+        """Whether REPORTS.md has what `help` prints, and README.md a row for each command; and whether random calls use each."""
+        self.assertIn("\n\n" + "".join(f"    {line}\n" for line in HELP), content("docs", "REPORTS.md"))
+        for command in {*COMMANDS, "help"}:
+            self.assertRegex(content("README.md"), rf"(?m)^\| `{command}[ `]")
+            self.assertIn(command, hostile.WORDS)
 
     @unittest.skipUnless(shutil.which("man"), "man is missing")
     def test_warnings(self):

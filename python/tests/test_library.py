@@ -249,7 +249,9 @@ class Programs(Rooms):
 
     def test_the_search_path(self):
         folder, program = self.put_package("x"), self.put("bin/welungad", b"#!/bin/sh\n")
-        statement = "from welungad import _library; print(_library.program_path())"
+        # in an interpreter that has no program of its own, as a wheel gives it one
+        own = f"import sys, sysconfig; sys.prefix = {self.room + '/own'!r}; sysconfig.get_path = lambda name: sys.prefix + '/scripts'; "
+        statement = own + "from welungad import _library; print(_library.program_path())"
         os.chmod(program, 0o755)
         self.assertIn(f"{program} has no stamp beside it", say(folder, statement, PATH=os.path.dirname(program)))
         self.put("share/welungad/identity", f"sha256 welungad {hashlib.sha256(b'#!/bin/sh' + bytes([10])).hexdigest()}\n".encode())
@@ -257,7 +259,8 @@ class Programs(Rooms):
         self.assertEqual(say(folder, f"import os; os.chdir({self.room!r}); {statement}", PATH="bin"), f"{program}\n")
         os.chmod(program, 0o644)
         said = say(folder, statement, PATH=os.path.dirname(program))
-        self.assertRegex(said, f"OSError: the program welungad is not found. The places tried: {sys.prefix}/bin/welungad, .*and those of the search path. "
+        self.assertRegex(said, f"OSError: the program welungad is not found. The places tried: {self.room}/own/bin/welungad, "
+                               f"{self.room}/own/scripts/welungad, and those of the search path. "
                                "Build it by ./welungad help, install Welungad by ./install PREFIX")
 
     def test_the_one_of_the_wheel(self):

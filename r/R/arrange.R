@@ -19,7 +19,8 @@ fault_of_names <- function(given, keys, own) {
   if (length(empty)) return(paste0(place_text(empty[1]), " has no name, and others have one"))
   if (anyDuplicated(given)) return(paste("the name", quoted(given[duplicated(given)][1]), "occurs twice"))
   unknown <- setdiff(given, unlist(keys))
-  if (length(unknown)) return(paste0(unknown_name(unknown[1], unlist(keys)), own, sentence_of_rows(given, unknown)))
+  if (length(unknown)) return(paste0(unknown_name(unknown[1], unlist(keys)), own, sentence_of_rows(given, unknown),
+    cure_of_made_names(given)))
   missing <- keys[[1]][vapply(seq_along(keys[[1]]), function(i) !any(vapply(keys, `[`, "", i) %in% given), NA)]
   if (length(missing)) return(paste("nothing is given for", quoted(missing[1])))
   paste0("some names are labels and others are the program's names, so they fit in no way: give all labels", own)
@@ -33,12 +34,20 @@ sentence_of_rows <- function(given, unknown) {
     "or a column hypothesis")
 }
 
+# What to do about the names that R gives to the columns of a matrix without any.
+cure_of_made_names <- function(given) {
+  if (!any(vapply(c("V", "X"), function(stem) identical(given, paste0(stem, whole_text(seq_along(given)))), NA))) return("")
+  paste0(". Columns without names got ", listed(given, 2L), " from R: unname(as.matrix(x)) has none, so they have the order of the hypotheses")
+}
+
 # A vector, a list, or numbers that were read, in the order of the hypotheses. `count` is how many are needed, if it is known.
 arranged <- function(x, keys, what, count = NULL) {
   given <- if (inherits(x, "welungad_exact")) x$names else names_in(x)
   if (!is.null(given)) {
     if (length(keys) == 1 && identical(given, keys[[1]])) return(x)
-    return(x[places_among(given, keys, what)])
+    # (an error within the brackets would be told as one of finding a method, once a package has methods for them)
+    places <- places_among(given, keys, what)
+    return(x[places])
   }
   if (!is.null(count) && length(x) != count) {
     stop_at(what, whole_text(length(x)), " given for ", count_of_hypotheses(count))
@@ -78,6 +87,10 @@ vector_of_frame <- function(x, what) {
     return(read)
   }
   if (nrow(x) == 1 || length(x) == 1) return(exact_vector(exact_frame(x, what), what))
+  if (all(c("hypothesis", column) %in% names(x))) {
+    stop_at(what, "beside the columns hypothesis and ", column, " there is ", listed(quoted(setdiff(names(x), c("hypothesis", column))), 4L),
+      ": x[c(\"hypothesis\", ", quoted(column), ")] leaves it out")
+  }
   stop_at(what, "a data frame has one row with a column for each hypothesis, or the columns hypothesis and ", column)
 }
 

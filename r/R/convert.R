@@ -37,10 +37,22 @@ graph_of_list <- function(x) {
 graph_of_update <- function(parts) {
   graph <- unclass(parts$updated_graph)
   weights <- field_of(graph, "hypotheses")
-  deleted <- parts$deleted
-  if (!is.character(deleted)) deleted <- names(unclass(parts$initial_graph)$hypotheses)[deleted]
-  left <- setdiff(seq_along(weights), match(deleted, names(weights)))
+  left <- setdiff(seq_along(weights), match(deleted_in(parts), names(weights)))
   graph_create(weights[left], field_of(graph, "transitions")[left, left, drop = FALSE])
+}
+
+deleted_in <- function(parts) {
+  deleted <- parts$deleted
+  if (is.character(deleted)) deleted else names(unclass(parts$initial_graph)$hypotheses)[deleted]
+}
+
+# The hypotheses that were deleted from a graph of graphicalMCP, and so are no hypotheses of it here.
+deleted_of <- function(x) if ("updated_graph" %in% attr(x, "class")) deleted_in(unclass(x)) else character()
+
+# Stops at names of hypotheses that were deleted.
+check_deleted <- function(given, deleted, graph, what) {
+  wrong <- given[given %in% deleted]
+  if (length(wrong)) stop_at(what, quoted(wrong[1]), " was deleted from this graph, which has ", hypotheses_text(graph))
 }
 
 # gMCP: an object with the slots m and weights. Its edges are numbers, or texts with epsilon. It can mark hypotheses as rejected, which

@@ -1,6 +1,10 @@
 # Graphs.
 
-graph_create <- function(hypotheses, transitions, hyp_names = NULL, labels = NULL) {
+graph_create <- function(hypotheses, transitions, hyp_names = NULL, labels = NULL, ...) {
+  check_dots(..., instead = create_arguments)
+  if (is_square(hypotheses) && !is_square(transitions)) {
+    stop_at("hypotheses", "a square table is of edges, and the weights come first: graph_create(weights, edges)")
+  }
   weights <- exact_vector(hypotheses, "hypotheses")
   n <- length(weights)
   edges <- exact_square(transitions, "transitions", n)
@@ -17,6 +21,9 @@ graph_create <- function(hypotheses, transitions, hyp_names = NULL, labels = NUL
     edges = matrix(edge_texts(edges, "transitions"), n, n))
   new_graph(names, labels, list(component), unique(rbind(as_read(weights), as_read(edges))))
 }
+
+# Whether an argument is a table of two or more rows and as many columns.
+is_square <- function(x) length(dim(x)) == 2 && dim(x)[1] == dim(x)[2] && dim(x)[1] > 1
 
 # The names that the user gives: `hyp_names`, else those of the weights, of the rows or of the columns, else H1, H2 and so on.
 given_names <- function(weights, edges, hyp_names) {
@@ -86,6 +93,9 @@ new_graph <- function(names, labels, components, read = NULL) {
 
 graph_entangle <- function(..., shares) {
   graphs <- list(...)
+  other <- intersect(names(graphs)[!vapply(graphs, is_any_graph, NA)], names(entangled_arguments))
+  if (length(other)) refuse_argument(other[1], entangled_arguments)
+  if (missing(shares)) stop_at("shares", "one share is needed for each graph")
   if (length(graphs) == 1 && is.list(graphs[[1]]) && !is_any_graph(graphs[[1]])) graphs <- graphs[[1]]
   if (!length(graphs) || !all(vapply(graphs, is_any_graph, NA))) stop_at("...", "graphs are needed, as graph_create makes them")
   graphs <- lapply(graphs, check_graph)
@@ -159,12 +169,15 @@ level_at_first <- new_exact("0.025", "1/40", "least denominator")
 
 # A case of a graph, its p-values and its level, as it is handed in, with the numbers as they were read.
 case_of <- function(graph, p, alpha) {
+  deleted <- deleted_of(graph)
   graph <- check_graph(graph)
   level <- if (identical(alpha, 0.025)) level_at_first else exact_of(alpha, "alpha")
-  case <- list(alpha = level)
+  case <- list(alpha = level, deleted = deleted)
   if (!is.null(p)) {
     check_counted_rows(p, hypothesis_keys(graph), "p")
-    case$p <- read_p(arranged(exact_vector(p, "p"), hypothesis_keys(graph), "p"), graph)
+    p <- exact_vector(p, "p")
+    check_deleted(p$names, deleted, graph, "p")
+    case$p <- read_p(arranged(p, hypothesis_keys(graph), "p"), graph)
     if (length(case$p) == 0) refuse(3L, "malformed: case: p count 0", where = "p: no p-values are given")
     p <- number_texts(case$p, "p")
   }

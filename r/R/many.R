@@ -3,10 +3,12 @@
 # How many rows are decided between two looks at the clock, in which R also sees an interrupt.
 rows_of_block <- 512L
 
-graph_test_many <- function(graph, P, alpha = 0.025) {
+graph_test_many <- function(graph, P, alpha = 0.025, ...) {
+  check_dots(..., instead = many_arguments)
+  deleted <- deleted_of(graph)
   graph <- check_graph(graph)
   level <- level_of(alpha)
-  P <- rows_of_p(P, graph)
+  P <- rows_of_p(P, graph, deleted)
   out <- matrix(NA, nrow(P), ncol(P), dimnames = list(rownames(P), graph$labels))
   decide <- if (is.double(P) && welungad_way() == "library" && has_numbers()) decided_doubles else decided_texts
   progress <- progress_over(nrow(P))
@@ -23,12 +25,13 @@ graph_test_many <- function(graph, P, alpha = 0.025) {
 }
 
 # The p-values, a row a trial, with the columns in the order of the hypotheses: doubles, or else texts. None is missing.
-rows_of_p <- function(P, graph) {
+rows_of_p <- function(P, graph, deleted = character()) {
   if (!is.data.frame(P) && length(dim(P)) != 2) {
     stop_at("P", "a matrix is needed, with a row for each trial and a column for each hypothesis")
   }
   n <- length(graph$names)
-  if (ncol(P) != n) stop_at("P", whole_text(ncol(P)), " columns given for ", whole_text(n), " hypotheses")
+  check_deleted(colnames(P), deleted, graph, "P: columns")
+  if (ncol(P) != n) stop_at("P", count_of(ncol(P), "column"), " given for ", hypotheses_text(graph, deleted))
   if (!is.data.frame(P)) check_elements(P, "P")
   P <- if (is_of_doubles(P)) matrix_of_doubles(P) else matrix_of_texts(P)
   given <- colnames(P)

@@ -2,29 +2,34 @@
 
 # ---- one family
 
-graph_bonferroni <- function(size = NULL, weights = NULL, names = NULL) {
+graph_bonferroni <- function(size = NULL, weights = NULL, names = NULL, ...) {
+  check_dots(..., instead = named_arguments)
   family <- family_of(size, weights, names)
   named_graph(family, no_edges(family$size))
 }
 
-graph_holm <- function(size = NULL, weights = NULL, names = NULL) {
+graph_holm <- function(size = NULL, weights = NULL, names = NULL, ...) {
+  check_dots(..., instead = named_arguments)
   family <- family_of(size, weights, names)
   named_graph(family, holm_edges(family))
 }
 
-graph_fixed_sequence <- function(size = NULL, names = NULL) {
+graph_fixed_sequence <- function(size = NULL, names = NULL, ...) {
+  check_dots(..., instead = named_arguments)
   family <- family_of(size, NULL, names)
   family$weights <- c("1", rep("0", family$size - 1L))
   named_graph(family, next_edges(family$size))
 }
 
-graph_fallback <- function(size = NULL, weights = NULL, names = NULL) {
+graph_fallback <- function(size = NULL, weights = NULL, names = NULL, ...) {
+  check_dots(..., instead = named_arguments)
   family <- family_of(size, weights, names)
   named_graph(family, next_edges(family$size))
 }
 
 # The last hypothesis passes its weight back to the others, in proportion to their weights.
-graph_fallback_improved_1 <- function(size = NULL, weights = NULL, names = NULL) {
+graph_fallback_improved_1 <- function(size = NULL, weights = NULL, names = NULL, ...) {
+  check_dots(..., instead = named_arguments)
   family <- family_of(size, weights, names)
   n <- family$size
   edges <- next_edges(n)
@@ -37,7 +42,8 @@ graph_fallback_improved_1 <- function(size = NULL, weights = NULL, names = NULL)
 }
 
 # Each hypothesis passes its weight back to the first one, but an infinitesimal part to the next one.
-graph_fallback_improved_2 <- function(size = NULL, weights = NULL, names = NULL) {
+graph_fallback_improved_2 <- function(size = NULL, weights = NULL, names = NULL, ...) {
+  check_dots(..., instead = named_arguments)
   family <- family_of(size, weights, names)
   n <- family$size
   edges <- next_edges(n)
@@ -50,7 +56,8 @@ graph_fallback_improved_2 <- function(size = NULL, weights = NULL, names = NULL)
 
 # ---- two families
 
-graph_gatekeeping_serial <- function(primary, secondary, weights = NULL, names = NULL) {
+graph_gatekeeping_serial <- function(primary, secondary, weights = NULL, names = NULL, ...) {
+  check_dots(..., instead = named_arguments)
   families <- two_families(primary, secondary, weights, names)
   edges <- gate_edges(families)
   own <- holm_edges(families$first)
@@ -61,13 +68,15 @@ graph_gatekeeping_serial <- function(primary, secondary, weights = NULL, names =
   named_graph(families, edges)
 }
 
-graph_gatekeeping_parallel <- function(primary, secondary, weights = NULL, names = NULL) {
+graph_gatekeeping_parallel <- function(primary, secondary, weights = NULL, names = NULL, ...) {
+  check_dots(..., instead = named_arguments)
   families <- two_families(primary, secondary, weights, names)
   named_graph(families, gate_edges(families))
 }
 
 # Each secondary hypothesis passes an infinitesimal part back to a primary one, by turns.
-graph_gatekeeping_improved <- function(primary, secondary, weights = NULL, names = NULL) {
+graph_gatekeeping_improved <- function(primary, secondary, weights = NULL, names = NULL, ...) {
+  check_dots(..., instead = named_arguments)
   families <- two_families(primary, secondary, weights, names)
   edges <- gate_edges(families)
   one <- families$one
@@ -79,7 +88,8 @@ graph_gatekeeping_improved <- function(primary, secondary, weights = NULL, names
 }
 
 # Two primary hypotheses. A rejected one passes the part gamma of its weight to the other one, as in Holm's procedure.
-graph_truncated_holm <- function(gamma, secondary = 2, names = NULL) {
+graph_truncated_holm <- function(gamma, secondary = 2, names = NULL, ...) {
+  check_dots(..., instead = named_arguments)
   gamma <- part_given(gamma, "gamma")
   families <- two_families(2L, secondary, NULL, names)
   edges <- gate_edges(families)
@@ -90,7 +100,8 @@ graph_truncated_holm <- function(gamma, secondary = 2, names = NULL) {
 
 # ---- two doses or endpoints, each with a primary and a secondary hypothesis
 
-graph_simple_successive_1 <- function(weights = NULL, names = NULL) {
+graph_simple_successive_1 <- function(weights = NULL, names = NULL, ...) {
+  check_dots(..., instead = named_arguments)
   named_graph(two_families(2L, 2L, weights, names), rbind(
     c("0", "0", "1", "0"),
     c("0", "0", "0", "1"),
@@ -99,11 +110,13 @@ graph_simple_successive_1 <- function(weights = NULL, names = NULL) {
   ))
 }
 
-graph_simple_successive_2 <- function(weights = NULL, names = NULL) {
+graph_simple_successive_2 <- function(weights = NULL, names = NULL, ...) {
+  check_dots(..., instead = named_arguments)
   graph_general_successive("1/2", "1/2", weights, names)
 }
 
-graph_general_successive <- function(gamma, delta, weights = NULL, names = NULL) {
+graph_general_successive <- function(gamma, delta, weights = NULL, names = NULL, ...) {
+  check_dots(..., instead = named_arguments)
   gamma <- part_given(gamma, "gamma")
   delta <- part_given(delta, "delta")
   named_graph(two_families(2L, 2L, weights, names), rbind(
@@ -116,7 +129,8 @@ graph_general_successive <- function(gamma, delta, weights = NULL, names = NULL)
 
 # ---- graphs of publications
 
-graph_huque_2011 <- function(names = NULL) {
+graph_huque_2011 <- function(names = NULL, ...) {
+  check_dots(..., instead = named_arguments)
   fixed_graph(c("1", "0", "0", "0"), names, rbind(
     c("0", "1/2", "1/2", "0"),
     c("0", "0", "0", "1"),
@@ -125,7 +139,8 @@ graph_huque_2011 <- function(names = NULL) {
   ))
 }
 
-graph_bretz_2011 <- function(names = NULL) {
+graph_bretz_2011 <- function(names = NULL, ...) {
+  check_dots(..., instead = named_arguments)
   if (is.null(names)) names <- c("H11", "H21", "H31", "H12", "H22", "H32")
   fixed_graph(c("1/3", "1/3", "1/3", "0", "0", "0"), names, rbind(
     c("0", "1/2", "0", "1/2", "0", "0"),
@@ -137,7 +152,8 @@ graph_bretz_2011 <- function(names = NULL) {
   ))
 }
 
-graph_hung_wang_2010 <- function(nu, tau, omega, names = NULL) {
+graph_hung_wang_2010 <- function(nu, tau, omega, names = NULL, ...) {
+  check_dots(..., instead = named_arguments)
   nu <- part_given(nu, "nu")
   tau <- part_given(tau, "tau")
   omega <- part_given(omega, "omega")
@@ -154,6 +170,8 @@ graph_hung_wang_2010 <- function(nu, tau, omega, names = NULL) {
 
 # A family of hypotheses: their number, their weights and their names, of which one is enough. Without weights they are equal.
 family_of <- function(size, weights, names) {
+  # R takes an argument n, of other packages, for the beginning of names
+  if (is_number(names) && length(names) == 1) stop_at("names", double_text(names), " is a number: write size = .. for that of the hypotheses")
   weights <- weights_read(weights, names)
   if (is.null(names) && !is.null(weights)) names <- weights$names
   n <- size_of(list(size = if (!is.null(size)) count_given(size, "size"), weights = if (!is.null(weights)) length(weights),
@@ -200,6 +218,10 @@ two_families <- function(primary, secondary, weights, names) {
 }
 
 count_given <- function(x, what) {
+  if (missing(x)) stop_at(what, "the number of hypotheses is needed, such as 2")
+  if (length(x) > 1) {
+    stop_at(what, "one number is needed, and not ", whole_text(length(x)), ": write weights = .. for weights, and names = .. for names")
+  }
   number <- if (length(x) == 1) whole_numbers(x, what)
   if (length(number) != 1 || number < 1) stop_at(what, "a whole number from 1 on is needed")
   number
@@ -217,6 +239,7 @@ part_text <- function(n) if (n == 1) "1" else paste0("1/", whole_text(n))
 
 # A part from 0 to 1 that a user gives for an edge, as a text; one with epsilon stays as it is.
 part_given <- function(x, what) {
+  if (missing(x)) stop_at(what, "a part from 0 to 1 is needed, such as 1/2")
   read <- exact_of(x, what)
   text <- as_text(read$read)
   if (length(text) != 1) stop_at(what, "one number is needed")

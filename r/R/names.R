@@ -110,5 +110,11 @@ known_positions <- function(graph, given, what) {
   as.integer(given)
 }
 
+# How many hypotheses a graph has and which, for messages.
+hypotheses_text <- function(graph, deleted = character()) {
+  paste0(count_of_hypotheses(length(graph$labels)), ": ", listed(graph$labels, 16L),
+    if (length(deleted)) paste0(", without the deleted ", listed(deleted, 16L)))
+}
+
 # What hypotheses may be called.
 hypothesis_keys <- function(graph) if (identical(graph$names, graph$labels)) list(graph$labels) else list(graph$labels, graph$names)

@@ -4,7 +4,8 @@
 # The most rejections whose orders are listed: eight have up to 40,320.
 most_ordered <- 8L
 
-graph_rejection_orderings <- function(x, p = NULL, alpha = 0.025) {
+graph_rejection_orderings <- function(x, p = NULL, alpha = 0.025, ...) {
+  check_dots(..., instead = order_arguments)
   if (inherits(x, "welungad_test")) {
     if (!is.null(p) || !missing(alpha)) stop_at(if (is.null(p)) "alpha" else "p", "a result of graph_test has its own")
   } else {
@@ -17,7 +18,16 @@ graph_rejection_orderings <- function(x, p = NULL, alpha = 0.025) {
   }
   orders <- legal_orders(x, rejected)
   steps <- if (ncol(orders)) paste("step", whole_text(seq_len(ncol(orders))))
-  matrix(x$graph$labels[orders], nrow(orders), dimnames = list(NULL, steps))
+  structure(matrix(x$graph$labels[orders], nrow(orders), dimnames = list(NULL, steps)), class = c("welungad_orderings", "matrix", "array"))
+}
+
+as.matrix.welungad_orderings <- function(x, ...) unclass(x)
+
+format.welungad_orderings <- function(x, ...) count_of(nrow(x), "order")
+
+print.welungad_orderings <- function(x, ...) {
+  print(unclass(x), quote = FALSE, ...)
+  invisible(x)
 }
 
 # The orders as rows of positions, one step after the other. A set of removed hypotheses is known by its code among the rejected.

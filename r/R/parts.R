@@ -67,6 +67,19 @@ element_of <- function(x, i) if (is.character(i) && length(i) == 1 && !is.na(i))
 
 `[[.welungad_update` <- function(x, i, ...) element_of(x, i)
 
+# ---- matrices
+
+# A matrix of a class of its own has no parts; R's error would not say where they are.
+refuse_part <- function(x, name, instead) {
+  stop("a ", class(x)[1], " is a matrix, so it has no part ", quoted(name), ": ", instead, call. = FALSE)
+}
+
+`$.welungad_orderings` <- function(x, name) refuse_part(x, name, "each of its rows is an order")
+
+`$.welungad_weights` <- function(x, name) refuse_part(x, name, "as.data.frame(x) is a table, and attr(x, \"exact\") has the exact weights")
+
+`$.welungad_many` <- function(x, name) refuse_part(x, name, "as.matrix(x) has the decision of each trial, and summary(x) estimates power")
+
 # ---- graphs
 
 # A part of a graph, or its weights or edges as numbers.

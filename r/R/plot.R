@@ -124,7 +124,10 @@ checked_layout <- function(layout, graph) {
   }
   same <- which(duplicated(unname(layout)))
   if (length(same)) stop_at("layout", place_text(same[1], rownames(layout)), " has the place of another hypothesis")
-  if (!is.null(rownames(layout))) layout <- layout[places_among(rownames(layout), hypothesis_keys(graph), "layout"), , drop = FALSE]
+  if (!is.null(rownames(layout))) {
+    places <- places_among(rownames(layout), hypothesis_keys(graph), "layout")
+    layout <- layout[places, , drop = FALSE]
+  }
   unname(layout)
 }
 

@@ -100,7 +100,7 @@ place_table <- rbind(
   c("^self edge of (\\S+) component \\S+$", "transitions", "the edge from %s to itself is not 0"),
   c("^(?:repeated )?edge (\\S+) (\\S+) component \\S+$", "transitions", "the edge from %s to %s is not from 0 to 1"),
   c("^row sum of (\\S+) component \\S+$", "transitions", "the edges from %s sum to more than 1"),
-  c("^p count \\S+$", "p", "the number of the p-values is not that of the hypotheses"),
+  c("^p count (\\S+)$", "p", "# given for "),
   c("^p missing (\\S+)$", "p", "the p-value of %s is missing"),
   c("^p of (\\S+)$", "p", "the p-value of %s"),
   c("^no stage$", "levels", "the number of stages is 0"),
@@ -163,8 +163,9 @@ filled <- function(sentence, words, graph) {
   do.call(sprintf, as.list(c(gsub("#", "%s", sentence, fixed = TRUE), shown)))
 }
 
-# What was given for one p-value or weight, or for the level.
+# What was given for one p-value or weight, or for the level; for the number of p-values, what is needed.
 value_at <- function(rest, case) {
+  if (startsWith(rest, "p count ")) return(hypotheses_text(case$graph, case$deleted))
   lines <- strsplit(as_text_of(case$text), "\n", fixed = TRUE)[[1]]
   words <- strsplit(rest, " ", fixed = TRUE)[[1]]
   given <- switch(paste(words[1:2], collapse = " "),

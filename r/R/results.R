@@ -36,22 +36,6 @@ is_whole_result <- function(x) {
     identical(x$rejections$hypothesis, label_of(report$rejects[2, ], x$graph)) && identical(x$rejections$weight, report$rejects[6, ])
 }
 
-# ---- arguments
-
-# What R's own functions hand to as.data.frame.
-frame_arguments <- c("row.names", "optional", "stringsAsFactors", "make.names", "nm", "check.names", "cut.names", "col.names", "fix.empty.names")
-
-# Stops at an argument that nothing reads, such as a misspelt one.
-check_dots <- function(..., allowed = character()) {
-  given <- as.list(substitute(list(...)))[-1]
-  if (length(given) == 0) return(invisible())
-  known <- if (is.null(names(given))) rep(FALSE, length(given)) else names(given) %in% allowed
-  if (all(known)) return(invisible())
-  wrong <- names(given)[!known][1]
-  if (is.null(wrong) || !nzchar(wrong)) stop("there are more arguments than this call has", call. = FALSE)
-  stop_at(wrong, "this call has no such argument")
-}
-
 # ---- notes
 
 # A p-value that was rounded to 0 would be rejected at any level.

@@ -2,11 +2,12 @@
 
 set_text <- function(sets, labels, gap = ", ") vapply(sets, function(set) paste(labels[set], collapse = gap), "")
 
-graph_test_closure <- function(graph, p, alpha = 0.025, test = c("bonferroni", "simes")) {
+graph_test_closure <- function(graph, p, alpha = 0.025, test = c("bonferroni", "simes"), ...) {
+  check_dots(..., instead = closure_arguments)
   test <- if (missing(test)) "bonferroni" else chosen_test(test)
   case <- case_of(graph, p, alpha)
   proved <- ask(if (test == "simes") "simes" else "bounds", case)
-  weights <- ask("weights", case)
+  weights <- from_whole_set(ask("weights", case))
   read <- ask("canon", case)
   found <- closed_levels(weights, read$p, read$alpha, test)
   bound <- proved$bound[match(weights$codes, proved$codes)]
@@ -14,7 +15,7 @@ graph_test_closure <- function(graph, p, alpha = 0.025, test = c("bonferroni", "
   new_closure(case, test, weights, bound, found, read)
 }
 
-# The sets of a closed test, in the order of the program, with their verdicts and the least levels at which they are rejected.
+# The sets of a closed test, in the order of graph_weights, with their verdicts and the least levels at which they are rejected.
 new_closure <- function(case, test, weights, bound, found, read) {
   labels <- case$graph$labels
   single <- match(2^(seq_along(labels) - 1), weights$codes)
@@ -36,6 +37,7 @@ new_closure <- function(case, test, weights, bound, found, read) {
     rejected = named(bound[single] >= 1L),
     adjusted = named(adjusted_doubles(adjusted, bound[single] >= 1L, read$alpha)),
     reached = named(found$reached[single]),
+    exact = table_of(hypothesis = labels, p = unname(read$p), adjusted = adjusted),
     compared = is_compared,
     read = case$p,
     case = case$text
@@ -135,18 +137,27 @@ print.welungad_closure <- function(x, exact = FALSE, digits = 4, most = 64, ...)
   })
   if (rest > 0) cat("  and ", count_of(rest, "more intersection"), ", which as.data.frame has\n", sep = "")
   print_rejected(x)
+  print_notes(adjusted_text(x, exact, digits))
   print_notes(c(bound_notes(x), zero_notes(x$read, x$graph$labels)))
   invisible(x)
 }
 
+# A sentence with the adjusted p-value of each hypothesis.
+adjusted_text <- function(x, exact, digits) {
+  values <- if (exact) x$exact$adjusted else shown(unname(x$adjusted), digits)
+  paste0("Adjusted p-values: ", paste0(one_line(x$graph$labels), " ", values, ifelse(x$reached, "", " not reached"), collapse = ", "))
+}
+
 # ---- bounds of true discoveries
 
-graph_bounds <- function(graph, p, alpha = 0.025) {
+graph_bounds <- function(graph, p, alpha = 0.025, ...) {
+  check_dots(..., instead = bounds_arguments)
   case <- case_of(graph, p, alpha)
   new_bounds(ask("bounds", case), case, "Bonferroni")
 }
 
-graph_simes <- function(graph, p, alpha = 0.025) {
+graph_simes <- function(graph, p, alpha = 0.025, ...) {
+  check_dots(..., instead = bounds_arguments)
   case <- case_of(graph, p, alpha)
   graph <- case$graph
   report <- ask("simes", case)

@@ -160,7 +160,8 @@ check_counted <- function(labels, what) {
 # A vector: the levels that the hypothesis has at its stages while its weight is `from`; at other weights in proportion.
 spend_list <- function(name, what, levels, alpha, from, stages) {
   levels <- exact_vector(levels, what)
-  levels <- unname(levels[places_of_stages(names(levels), length(levels), stages, what)])
+  places <- places_of_stages(names(levels), length(levels), stages, what)
+  levels <- unname(levels[places])
   values <- fraction(number_texts(levels, what))
   whole <- fraction(alpha) * fraction(from)
   if (anyNA(values) || length(values) == 0) stop_at(what, "a number is needed for each stage")
@@ -179,7 +180,8 @@ spend_table <- function(name, what, levels, alpha, stages) {
   read <- if (is.data.frame(levels)) exact_frame(levels, what) else exact_of(levels, what)
   from <- read$dimnames[[1]]
   if (is.null(from)) stop_at(what, "a matrix of levels has row names: the weights from which its rows count")
-  read <- read[, places_of_stages(read$dimnames[[2]], read$dim[2], stages, what), drop = FALSE]
+  places <- places_of_stages(read$dimnames[[2]], read$dim[2], stages, what)
+  read <- read[, places, drop = FALSE]
   from <- number_texts(exact_of(from, what), what)
   wrong <- which(is.na(fraction(from)))
   if (length(wrong)) stop_at(what, "the row name ", quoted(from[wrong[1]]), " is not a weight")

@@ -2,7 +2,8 @@
 
 priorities <- c("first", "last", "ratio")
 
-graph_test <- function(graph, p, alpha = 0.025, priority = c("first", "last", "ratio")) {
+graph_test <- function(graph, p, alpha = 0.025, priority = c("first", "last", "ratio"), ...) {
+  check_dots(..., instead = decision_arguments)
   priority <- if (missing(priority)) "first" else chosen(priority, priorities, "priority")
   case <- case_of(graph, p, alpha)
   new_test(ask(c("test", if (priority != "first") c("--priority", priority)), case), priority, case)

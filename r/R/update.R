@@ -1,7 +1,8 @@
 # Updated graphs. The package computes none: the call of the C library prints them (update_proved.R), and without it they are read off the
 # weights that `test` prints (update_read.R).
 
-graph_update <- function(graph, delete) {
+graph_update <- function(graph, delete, ...) {
+  check_dots(..., instead = update_arguments)
   graph <- check_graph(graph)
   new_update(graph, unique(positions_of(graph, delete, "delete")))
 }
@@ -91,6 +92,7 @@ print.welungad_update <- function(x, all = FALSE, ...) {
     if (length(graphs[[k]]$names)) print(graphs[[k]]) else cat("No hypothesis is left.\n")
   }
   cat(held_sentences[[x$held]], "\n", sep = "")
+  if (!all && length(x$deleted) > 1) cat("print(x, all = TRUE) shows the graph at the start and after each removal.\n")
   invisible(x)
 }
 

@@ -1,12 +1,10 @@
 # Weights of all intersections, which the proved call prints without p-values.
 
-graph_weights <- function(graph) {
+graph_weights <- function(graph, ...) {
+  check_dots(..., instead = weights_arguments)
   graph <- check_graph(graph)
   report <- ask("weights", handed(case_text(graph), graph))
-  n <- length(graph$names)
-  # from the whole set on, as numbers of n digits fall: the first hypothesis is the first digit
-  falling <- order(as.vector((!is.na(report$weights)) %*% 2^(n - seq_len(n))), decreasing = TRUE)
-  places <- report$weights[falling, , drop = FALSE]
+  places <- from_whole_set(report)$weights
   members <- !is.na(places)
   exact <- array(report$texts[places], dim(places))
   weights <- array(double_of(report$texts)[places], dim(places))
@@ -15,6 +13,17 @@ graph_weights <- function(graph) {
   dimnames(exact) <- list(whole_text(seq_len(nrow(exact))), graph$labels)
   structure(cbind(members + 0, weights), dimnames = list(rownames(exact), rep(graph$labels, 2)), exact = exact,
     class = c("welungad_weights", "matrix", "array"))
+}
+
+# A report of weights with its sets in the order of graphicalMCP: from the whole set on, as numbers of n digits fall. The first hypothesis is
+# the first digit.
+from_whole_set <- function(report) {
+  n <- ncol(report$weights)
+  falling <- order(as.vector((!is.na(report$weights)) %*% 2^(n - seq_len(n))), decreasing = TRUE)
+  report$sets <- report$sets[falling]
+  report$codes <- report$codes[falling]
+  report$weights <- report$weights[falling, , drop = FALSE]
+  report
 }
 
 as.matrix.welungad_weights <- function(x, ...) {

@@ -15,7 +15,8 @@ as_graph(x)
 Weights and edges are read as \code{\link{as_exact}} says. Edges of gMCP that are texts with epsilon stay as they are. A graph
 whose weights or rows sum to more than 1, as R's doubles are read, is refused: see \code{total} of \code{\link{as_exact}}.
 
-The deleted hypotheses of an \code{updated_graph} are left out.
+The deleted hypotheses of an \code{updated_graph} are left out. They need no p-values: a call that gets some for them stops, and names the
+hypotheses that are left.
 
 A graph of gMCP in which a hypothesis is marked as rejected is an error, since here it would be a hypothesis that is not rejected and has
 the weight 0.
@@ -28,6 +29,12 @@ A graph of class \code{welungad_graph}.
 
 \code{vignette("coming-from", package = "welungad")} has a table of calls.
 }
+\concept{gMCP}
+\concept{graphicalMCP}
+\concept{graphMCP}
+\concept{initial_graph}
+\concept{updated_graph}
+\concept{entangledMCP}
 \examples{
 \dontshow{if (welungad_found()) withAutoprint(\{ # examples need the program or its library}
 theirs <- structure(

@@ -13,7 +13,7 @@ as_igraph(x, epsilon = NULL)
 }
 \arguments{
   \item{x}{a graph of this package, or one of graphicalMCP or gMCP, as \code{\link{as_graph}} takes it.}
-  \item{epsilon}{a number between 0 and 1 in place of epsilon, such as 0.0001. It is needed if the graph has an epsilon, since graphicalMCP and igraph have numbers alone.}
+  \item{epsilon}{a number between 0 and 1 in place of epsilon, such as 0.0001. It is needed if the graph has an epsilon, since graphicalMCP and igraph have numbers alone. gMCP puts such a number in by \code{substituteEps}.}
 }
 \details{
 The numbers of these objects are doubles, so they are no longer exact. \code{\link{as_graph}} reads them as \code{\link{as_exact}} says,
@@ -34,6 +34,10 @@ and \code{exact}, edges \code{weight}, \code{exact} and \code{component}.
 \seealso{
 \code{\link{as_graph}} for the way back, \code{vignette("coming-from", package = "welungad")}
 }
+\concept{substituteEps}
+\concept{graphMCP}
+\concept{initial_graph}
+\concept{graphGUI}
 \examples{
 \dontshow{if (welungad_found()) withAutoprint(\{ # examples need the program or its library}
 theirs <- as_initial_graph(graph_simple_successive_2())

@@ -8,14 +8,15 @@
 For each set of hypotheses (at most 16 in the graph), a lower bound on the number of false hypotheses in it: its size minus the size of its largest subset that the closed test does not reject. \code{graph_bounds} uses weighted Bonferroni tests, \code{graph_simes} weighted Simes tests. With confidence 1 - alpha no bound of any set is too great, for \code{graph_simes} if Simes' test is valid.
 }
 \usage{
-graph_bounds(graph, p, alpha = 0.025)
-graph_simes(graph, p, alpha = 0.025)
+graph_bounds(graph, p, alpha = 0.025, ...)
+graph_simes(graph, p, alpha = 0.025, ...)
 bound_of(x, hypotheses)
 }
 \arguments{
   \item{graph}{a graph, as \code{\link{graph_create}}, \code{\link{graph_entangle}}, \code{\link{graph_catalogue}} or \code{\link{graph_read}} makes it.}
   \item{p}{the p-values: doubles, texts, or fractions of gmp, read as \code{\link{as_exact}} says. They are put in the order of the hypotheses by their names, if they have names: a vector, one row or column of a matrix or a data frame, or the columns \code{hypothesis} and \code{p} of a data frame. Rows of a data frame that are not numbered 1, 2 and so on in this order have names. Numbers that are called as those of another argument, such as \code{weight}, are an error. A double that no decimal of up to 30 places rounds to is rounded up to a multiple of 10^-30, with a message of class \code{welungad_rounded}.}
   \item{alpha}{the level: above 0, at most 1, a fraction of whole numbers up to 10,000, such as 0.025 or 0.00625.}
+  \item{...}{nothing else: another argument is an error, which says what to write in place of one of graphicalMCP or gMCP.}
   \item{x}{a result of \code{graph_bounds} or \code{graph_simes}.}
   \item{hypotheses}{a set of hypotheses, as for \code{delete} of \code{\link{graph_update}}.}
 }
@@ -42,6 +43,9 @@ procedures using weighted Bonferroni, Simes, or parametric tests. \emph{Biometri
 \seealso{
 \code{\link{graph_test_closure}}
 }
+\concept{Simes test}
+\concept{gMCP with Simes tests}
+\concept{true discovery guarantee}
 \examples{
 \dontshow{if (welungad_found()) withAutoprint(\{ # examples need the program or its library}
 pair <- graph_create(c(1 / 2, 1 / 2), rbind(0:1, 1:0))

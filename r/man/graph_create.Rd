@@ -5,13 +5,14 @@
 Makes a graph of hypotheses with weights, and edges that say where the weight of a rejected hypothesis goes.
 }
 \usage{
-graph_create(hypotheses, transitions, hyp_names = NULL, labels = NULL)
+graph_create(hypotheses, transitions, hyp_names = NULL, labels = NULL, ...)
 }
 \arguments{
-  \item{hypotheses}{the weights, which sum to at most 1: a vector, one row or column of a matrix or a data frame, or the columns \code{hypothesis} and \code{weight} of a data frame. Rows of a data frame that are not numbered 1, 2 and so on in this order have names. Their names, if there are any, name the hypotheses.}
+  \item{hypotheses}{the weights, which come before the edges and sum to at most 1: a vector, one row or column of a matrix or a data frame, or the columns \code{hypothesis} and \code{weight} of a data frame. Rows of a data frame that are not numbered 1, 2 and so on in this order have names. Their names, if there are any, name the hypotheses.}
   \item{transitions}{a square matrix or data frame: the edge from the hypothesis of the row to that of the column. Rows and columns with names are put in the order of the hypotheses. Each row sums to at most 1. An edge may hold an infinitesimal epsilon, as the text \code{1-\\epsilon} does.}
   \item{hyp_names}{the names of the hypotheses; if absent, those of \code{hypotheses}, else those of the rows, of the columns, else H1, H2 and so on. Names are distinct, also without their blanks.}
   \item{labels}{what is shown for each hypothesis; if absent, the names. Labels are distinct, also without their blanks, and none is the name of another hypothesis.}
+  \item{...}{nothing else: another argument is an error, which says what to write in place of one of graphicalMCP or gMCP.}
 }
 \details{
 Numbers are read as \code{\link{as_exact}} says. \code{print} shows the exact numbers, and which doubles were read as another
@@ -37,6 +38,14 @@ Bretz, F., Maurer, W., Brannath, W. and Posch, M. (2009) A graphical approach to
 \seealso{
 \code{\link{graph_test}}, \code{\link{graph_entangle}}, \code{\link{named_graphs}}
 }
+\concept{graph_create of graphicalMCP}
+\concept{setWeights}
+\concept{setEdge}
+\concept{getWeights}
+\concept{getMatrix}
+\concept{getNodes}
+\concept{matrix2graph}
+\concept{new graphMCP}
 \examples{
 \dontshow{if (welungad_found()) withAutoprint(\{ # examples need the program or its library}
 edges <- matrix(1 / 2, 3, 3)

@@ -9,7 +9,7 @@ graph_entangle(..., shares)
 }
 \arguments{
   \item{...}{graphs with the same hypotheses, or one list of them; they may have names.}
-  \item{shares}{the share of each graph in the level; they sum to at most 1. Shares with names are put in the order of the graphs.}
+  \item{shares}{the share of each graph in the level; they sum to at most 1. Shares with names are put in the order of the graphs. gMCP calls them \code{weights}, which is an error here.}
 }
 \value{
 A graph of class \code{welungad_graph} with a component for each graph.
@@ -21,6 +21,8 @@ Maurer, W. and Bretz, F. (2013) Memory and other properties of multiple test pro
 \seealso{
 \code{\link{graph_create}}
 }
+\concept{entangledMCP}
+\concept{entangled graphs}
 \examples{
 \dontshow{if (welungad_found()) withAutoprint(\{ # examples need the program or its library}
 first <- graph_create(c(A = 1, B = 0, C = 0, D = 0), rbind(c(0, 0, 1, 0), 0, c(0, 1, 0, 0), 0))

@@ -42,6 +42,7 @@ The path of the file, invisibly.
 \seealso{
 \code{\link{graph_evidence}} for what a reviewer can check, \code{\link{plot.welungad_graph}} for pictures.
 }
+\concept{gMCPReport}
 \examples{
 \dontshow{if ("program" \%in\% welungad_ways()) withAutoprint(\{ # the example needs the program}
 graph <- graph_create(c("low dose" = 1 / 2, "high dose" = 1 / 2), rbind(0:1, 1:0))

@@ -6,7 +6,7 @@
 Decides which hypotheses are rejected. The decision, the weights and the adjusted p-values are what the proved program prints.
 }
 \usage{
-graph_test(graph, p, alpha = 0.025, priority = c("first", "last", "ratio"))
+graph_test(graph, p, alpha = 0.025, priority = c("first", "last", "ratio"), ...)
 graph_rejections(x, exact = FALSE)
 }
 \arguments{
@@ -14,6 +14,7 @@ graph_rejections(x, exact = FALSE)
   \item{p}{the p-values: doubles, texts, or fractions of gmp, read as \code{\link{as_exact}} says. They are put in the order of the hypotheses by their names, if they have names: a vector, one row or column of a matrix or a data frame, or the columns \code{hypothesis} and \code{p} of a data frame. Rows of a data frame that are not numbered 1, 2 and so on in this order have names. Numbers that are called as those of another argument, such as \code{weight}, are an error. A double that no decimal of up to 30 places rounds to is rounded up to a multiple of 10^-30, with a message of class \code{welungad_rounded}.}
   \item{alpha}{the level: above 0, at most 1, a fraction of whole numbers up to 10,000, such as 0.025 or 0.00625.}
   \item{priority}{which hypothesis is rejected first if several may be: the \code{first} or the \code{last} by position, or that with the least \code{ratio} of p-value to weight. What is rejected in the end is the same for each, unless a run is too wide.}
+  \item{...}{nothing else: another argument is an error, which says what to write in place of one of graphicalMCP or gMCP.}
   \item{x}{a result of \code{graph_test}.}
   \item{exact}{whether numbers are exact texts and not doubles.}
 }
@@ -52,6 +53,11 @@ Bretz, F., Maurer, W., Brannath, W. and Posch, M. (2009) A graphical approach to
 \code{\link{graph_test_many}},
 \code{\link{graph_steps}}, \code{\link{graph_rejection_orderings}}, \code{\link{graph_test_closure}}, \code{\link{graph_evidence}}
 }
+\concept{gMCP}
+\concept{graph_test_shortcut}
+\concept{adjPValues}
+\concept{adjusted p-values}
+\concept{sequentially rejective test}
 \examples{
 \dontshow{if (welungad_found()) withAutoprint(\{ # examples need the program or its library}
 graph <- graph_create(c(1 / 2, 1 / 2, 0, 0), rbind(

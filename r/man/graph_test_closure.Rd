@@ -5,13 +5,14 @@
 Shows each intersection of the hypotheses (at most 16 in the graph): the weights and local levels of its members, whether the local test rejects it, whether the closed test does, and from which level on.
 }
 \usage{
-graph_test_closure(graph, p, alpha = 0.025, test = c("bonferroni", "simes"))
+graph_test_closure(graph, p, alpha = 0.025, test = c("bonferroni", "simes"), ...)
 }
 \arguments{
   \item{graph}{a graph, as \code{\link{graph_create}}, \code{\link{graph_entangle}}, \code{\link{graph_catalogue}} or \code{\link{graph_read}} makes it.}
   \item{p}{the p-values: doubles, texts, or fractions of gmp, read as \code{\link{as_exact}} says. They are put in the order of the hypotheses by their names, if they have names: a vector, one row or column of a matrix or a data frame, or the columns \code{hypothesis} and \code{p} of a data frame. Rows of a data frame that are not numbered 1, 2 and so on in this order have names. Numbers that are called as those of another argument, such as \code{weight}, are an error. A double that no decimal of up to 30 places rounds to is rounded up to a multiple of 10^-30, with a message of class \code{welungad_rounded}.}
   \item{alpha}{the level: above 0, at most 1, a fraction of whole numbers up to 10,000, such as 0.025 or 0.00625.}
   \item{test}{the local test of each intersection: weighted Bonferroni or weighted Simes tests, in small or capital letters.}
+  \item{...}{nothing else: another argument is an error, which says what to write in place of one of graphicalMCP or gMCP.}
 }
 \details{
 The weights are what the program prints for the command \code{weights}. A set is rejected by the closed test if its bound in
@@ -31,7 +32,8 @@ are at most as large. Nothing is claimed of when Simes' test is valid under depe
 \value{
 An object of class \code{welungad_closure} with the parts \code{sets}, \code{weights}, \code{local}, \code{closed}, \code{bound},
 \code{p_local} and \code{p_closed} by intersection, and \code{rejected}, \code{adjusted} and \code{reached} by hypothesis. It has methods
-for \code{print} and \code{as.data.frame}, both with \code{exact = TRUE} for fractions.
+for \code{print} and \code{as.data.frame}, both with \code{exact = TRUE} for fractions. The sets are in the order of
+\code{\link{graph_weights}}, from the set of all hypotheses on. Below them \code{print} shows the rejected hypotheses and the adjusted p-values.
 }
 \references{
 Marcus, R., Peritz, E. and Gabriel, K. R. (1976) On closed testing procedures with special reference to ordered analysis of variance.
@@ -44,6 +46,10 @@ procedures using weighted Bonferroni, Simes, or parametric tests. \emph{Biometri
 \seealso{
 \code{\link{graph_bounds}}, \code{\link{graph_weights}} without p-values
 }
+\concept{graph_test_closure of graphicalMCP}
+\concept{closed test}
+\concept{adjusted p-values}
+\concept{gMCP with Simes tests}
 \examples{
 \dontshow{if (welungad_found()) withAutoprint(\{ # examples need the program or its library}
 edges <- matrix(1 / 2, 3, 3)

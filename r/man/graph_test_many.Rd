@@ -7,16 +7,16 @@
 Decides many trials with one graph and one level, for example to estimate power.
 }
 \usage{
-graph_test_many(graph, P, alpha = 0.025)
+graph_test_many(graph, P, alpha = 0.025, ...)
 \method{summary}{welungad_many}(object, ...)
 \method{print}{welungad_many}(x, ...)
 }
 \arguments{
   \item{graph}{a graph, as \code{\link{graph_create}}, \code{\link{graph_entangle}}, \code{\link{graph_catalogue}} or \code{\link{graph_read}} makes it.}
-  \item{P}{a matrix or a data frame with a row of p-values for each trial. Columns with names are put in the order of the hypotheses. Rows that have the names of all hypotheses are an error.}
+  \item{P}{a matrix or a data frame with a row of p-values for each trial. Columns with names are put in the order of the hypotheses. Rows that have the names of all hypotheses are an error, and so are the names such as \code{V1} that \code{as.data.frame} gives to columns without any: \code{unname(as.matrix(P))} has none.}
   \item{alpha}{the level: above 0, at most 1, a fraction of whole numbers up to 10,000, such as 0.025 or 0.00625.}
   \item{object, x}{a result of \code{graph_test_many}.}
-  \item{...}{for \code{print}, \code{digits}: how many digits of a decimal are shown.}
+  \item{...}{for \code{print}, \code{digits}: how many digits of a decimal are shown. Else nothing: another argument is an error, which says what to write in place of one of graphicalMCP or gMCP.}
 }
 \details{
 P-values are read as \code{\link{as_exact}} says. A p-value that is missing or not from 0 to 1 is an error with its row and column,
@@ -32,6 +32,10 @@ The call can be interrupted between blocks. If it takes more than two seconds in
 
 Power is not computed here, and p-values are not simulated: the example simulates correlated normal statistics, and estimates
 the power of each hypothesis, of rejecting at least one and all of them, and the expected number of rejections.
+
+A normal statistic has the power \code{power} at the one-sided level \code{alpha} if its mean is
+\code{qnorm(1 - alpha) + qnorm(power)}. So this is the mean for an element of the \code{power_marginal} of graphicalMCP. The \code{mean} and
+the \code{corr.sim} of gMCP's \code{calcPower} are the means and the correlation of the statistics.
 }
 \value{
 A logical matrix of class \code{welungad_many} with a row for each trial and a column for each hypothesis, named by its label: whether it
@@ -45,12 +49,17 @@ each with its standard error. Trials without a decision are left out, and counte
 \seealso{
 \code{\link{graph_test}} for one trial.
 }
+\concept{power}
+\concept{graph_calculate_power}
+\concept{calcPower}
+\concept{graphTest}
+\concept{simulation}
 \examples{
 \dontshow{if (welungad_found()) withAutoprint(\{ # examples need the program or its library}
 graph <- graph_create(c(low = 1 / 2, high = 1 / 2), rbind(0:1, 1:0))
 set.seed(1)
 trials <- 100
-shift <- c(low = 2, high = 3)
+shift <- qnorm(1 - 0.025) + qnorm(c(low = 0.5, high = 0.85))
 common <- rnorm(trials)
 statistics <- t(shift + t((matrix(rnorm(2 * trials), trials) + common) / sqrt(2)))
 rejected <- graph_test_many(graph, pnorm(statistics, lower.tail = FALSE), alpha = 0.025)

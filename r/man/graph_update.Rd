@@ -6,12 +6,13 @@
 Removes hypotheses from a graph. \code{graph_steps} removes those that a decision rejected, in their order.
 }
 \usage{
-graph_update(graph, delete)
+graph_update(graph, delete, ...)
 graph_steps(x)
 }
 \arguments{
   \item{graph}{a graph, as \code{\link{graph_create}}, \code{\link{graph_entangle}}, \code{\link{graph_catalogue}} or \code{\link{graph_read}} makes it.}
   \item{delete}{the hypotheses that are removed, in this order: by name, label or position, or a logical vector. A number that is the name of a hypothesis at another position is an error.}
+  \item{...}{nothing else: another argument is an error, which says what to write in place of one of graphicalMCP or gMCP.}
   \item{x}{a result of \code{\link{graph_test}}.}
 }
 \details{
@@ -29,8 +30,8 @@ to one call.
 \value{
 An object of class \code{welungad_update} with the parts \code{initial_graph}, \code{updated_graph}, \code{deleted}, \code{graphs} (the
 graphs before the first removal and after each) and \code{compared}, which is \code{TRUE} since all weights are those of the proved
-call. \code{plot} draws all graphs; \code{print(x, all = TRUE)}
-shows them, and \code{as.data.frame} has their weights.
+call. \code{plot} draws all graphs. \code{print} shows the last one, and \code{print(x, all = TRUE)} all of them, as a line below it says;
+\code{as.data.frame} has their weights.
 }
 \references{
 Bretz, F., Maurer, W., Brannath, W. and Posch, M. (2009) A graphical approach to sequentially rejective multiple test procedures.
@@ -39,6 +40,8 @@ Bretz, F., Maurer, W., Brannath, W. and Posch, M. (2009) A graphical approach to
 \seealso{
 \code{\link{graph_test}}
 }
+\concept{rejectNode}
+\concept{graph_update of graphicalMCP}
 \examples{
 \dontshow{if (welungad_found()) withAutoprint(\{ # examples need the program or its library}
 graph <- graph_create(c(1 / 2, 1 / 2, 0, 0), rbind(

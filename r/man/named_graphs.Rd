@@ -21,30 +21,31 @@
 Builds the graph of a known procedure, with weights and names of your own. These functions decide nothing.
 }
 \usage{
-graph_bonferroni(size = NULL, weights = NULL, names = NULL)
-graph_holm(size = NULL, weights = NULL, names = NULL)
-graph_fixed_sequence(size = NULL, names = NULL)
-graph_fallback(size = NULL, weights = NULL, names = NULL)
-graph_fallback_improved_1(size = NULL, weights = NULL, names = NULL)
-graph_fallback_improved_2(size = NULL, weights = NULL, names = NULL)
-graph_gatekeeping_serial(primary, secondary, weights = NULL, names = NULL)
-graph_gatekeeping_parallel(primary, secondary, weights = NULL, names = NULL)
-graph_gatekeeping_improved(primary, secondary, weights = NULL, names = NULL)
-graph_truncated_holm(gamma, secondary = 2, names = NULL)
-graph_simple_successive_1(weights = NULL, names = NULL)
-graph_simple_successive_2(weights = NULL, names = NULL)
-graph_general_successive(gamma, delta, weights = NULL, names = NULL)
-graph_huque_2011(names = NULL)
-graph_bretz_2011(names = NULL)
-graph_hung_wang_2010(nu, tau, omega, names = NULL)
+graph_bonferroni(size = NULL, weights = NULL, names = NULL, ...)
+graph_holm(size = NULL, weights = NULL, names = NULL, ...)
+graph_fixed_sequence(size = NULL, names = NULL, ...)
+graph_fallback(size = NULL, weights = NULL, names = NULL, ...)
+graph_fallback_improved_1(size = NULL, weights = NULL, names = NULL, ...)
+graph_fallback_improved_2(size = NULL, weights = NULL, names = NULL, ...)
+graph_gatekeeping_serial(primary, secondary, weights = NULL, names = NULL, ...)
+graph_gatekeeping_parallel(primary, secondary, weights = NULL, names = NULL, ...)
+graph_gatekeeping_improved(primary, secondary, weights = NULL, names = NULL, ...)
+graph_truncated_holm(gamma, secondary = 2, names = NULL, ...)
+graph_simple_successive_1(weights = NULL, names = NULL, ...)
+graph_simple_successive_2(weights = NULL, names = NULL, ...)
+graph_general_successive(gamma, delta, weights = NULL, names = NULL, ...)
+graph_huque_2011(names = NULL, ...)
+graph_bretz_2011(names = NULL, ...)
+graph_hung_wang_2010(nu, tau, omega, names = NULL, ...)
 }
 \arguments{
-  \item{size}{the number of hypotheses. The weights or the names can give it as well.}
+  \item{size}{the number of hypotheses. The weights or the names can give it as well. Several numbers are an error: weights are given as \code{weights}.}
   \item{weights}{the weights, read as \code{\link{as_exact}} says; equal ones if absent. Those of two families are of the primary hypotheses, and the secondary ones have the weight 0. Weights with names are put in the order of \code{names}.}
   \item{names}{the names of the hypotheses; if absent, the names of the weights, else H1, H2 and so on. Any distinct texts can be names.}
   \item{primary, secondary}{the numbers of primary and of secondary hypotheses.}
-  \item{gamma, delta}{the part of its weight that the first and the second primary hypothesis pass to the other one: from 0 to 1, or a text with epsilon.}
+  \item{gamma, delta}{the part of its weight that the first and the second primary hypothesis pass to the other one: from 0 to 1, or a text with epsilon. gMCP may leave it open; here it is needed.}
   \item{nu, tau, omega}{the parts that are passed along, from 0 to 1, or texts with epsilon.}
+  \item{...}{nothing else: another argument is an error, which says what to write in place of one of graphicalMCP or gMCP, such as \code{hypotheses} for weights, \code{hyp_names} and \code{n}.}
 }
 \details{
 One family of hypotheses:
@@ -128,6 +129,25 @@ Biopharmaceutical Statistics} \bold{15}, 929--942.
 \code{\link{graph_catalogue}} for the graphs that the program knows by name, \code{\link{graph_create}} for others,
 \code{\link{graph_entangle}} for several graphs.
 }
+\concept{BonferroniHolm}
+\concept{bonferroni_holm}
+\concept{bonferroni_weighted}
+\concept{fixedSequence}
+\concept{fixed_sequence}
+\concept{fallback}
+\concept{improvedFallbackI}
+\concept{improvedFallbackII}
+\concept{simpleSuccessiveI}
+\concept{simpleSuccessiveII}
+\concept{simple_successive_1}
+\concept{generalSuccessive}
+\concept{truncatedHolm}
+\concept{parallelGatekeeping}
+\concept{improvedParallelGatekeeping}
+\concept{HuqueAloshEtBhore2011}
+\concept{huque_etal}
+\concept{BretzEtAl2011}
+\concept{HungEtWang2010}
 \examples{
 \dontshow{if (welungad_found()) withAutoprint(\{ # examples need the program or its library}
 graph_holm(weights = c("low dose" = 1 / 2, "middle dose" = 1 / 4, "high dose" = 1 / 4))

@@ -57,7 +57,8 @@ Prints results, and gives them as data frames, as summaries, and in parts.
 The table of a decision has a row for each hypothesis. Its weight and its local level are those at its rejection, or in the end if it is
 not rejected; \code{step} is its place among the rejections. Below the table, \code{print} names a p-value that agrees with its level in
 the digits shown, one that is 0, and one that is at most four units in the last place from a fraction on the other side of
-the level. Below closed tests, bounds and staged tests it names those with which the decision would be another one.
+the level. Below closed tests, bounds and staged tests it names those with which the decision would be another one. Below a closed test
+it also lists the adjusted p-values, and below updated graphs it says how all of them are shown.
 
 In a table that would be wider than a line, short tags stand for labels, and a list below has them.
 

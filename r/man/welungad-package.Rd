@@ -22,6 +22,11 @@ Bretz, F., Maurer, W., Brannath, W. and Posch, M. (2009) A graphical approach to
 \seealso{
 \code{\link{graph_create}}, \code{\link{graph_test}}, \code{\link{print.welungad_test}} for printed results and tables.
 }
+\concept{gMCP}
+\concept{graphicalMCP}
+\concept{gMCPLite}
+\concept{graphical multiple comparison procedures}
+\concept{multiple testing}
 \examples{
 welungad_way()
 as_exact(1 / 3)

@@ -494,3 +494,18 @@ test_that("names and labels are texts", {
     }
   })
 })
+
+test_that("an error is the same once a package has methods for brackets", {
+  skip_if_not_installed("igraph")
+  loadNamespace("igraph")
+  each_way(function(way) {
+    zeros <- matrix(0, 2, 2)
+    graph <- graph_create(c(A = 1 / 2, B = 1 / 2), zeros)
+    expect_error(graph_test(graph, c(A = 0.1, C = 0.2)), "^p: no hypothesis has the name")
+    expect_error(graph_create(c(A = 1 / 2, B = 1 / 2), zeros, hyp_names = c("A", "C")), "^(hyp_names|hypotheses): ")
+    place <- matrix(c(0, 1, 0, 1), 2, dimnames = list(c("A", "C"), NULL))
+    expect_error(plot(graph, layout = place), "^layout: no hypothesis has the name")
+    expect_error(graph_stages(graph, list(A = c(second = 0.01, first = 0.02), B = c(0.01, 0.02)), at = "1/2", stages = c("first", "final")), "^levels")
+    expect_error(graph_stages(graph, list(A = c(second = 0.01, first = 0.02), B = c(0.01, 0.02)), at = "1/2"), "^levels")
+  })
+})

@@ -13,7 +13,7 @@ test_that("all orders of rejection, by hand", {
       c("H2 H1 H4", "H2 H4 H1", "H1 H2 H4"))
     # the labels, and a tie that rejects
     graph <- graph_create(c("low dose" = 1 / 2, B = 1 / 2), rbind(0:1, 1:0))
-    expect_equal(unname(graph_rejection_orderings(graph, c(0.0125, 0.025))), matrix(c("low dose", "B"), 1))
+    expect_equal(unname(as.matrix(graph_rejection_orderings(graph, c(0.0125, 0.025)))), matrix(c("low dose", "B"), 1))
   })
 })
 

@@ -26,7 +26,7 @@ test_that("refusals name the argument and the place", {
     expect_equal(where(graph_test(graph, gmp::as.bigq(c("1/10", NA)))), "p: the p-value of B is missing")
     expect_equal(where(graph_test(graph, c(-0.5, 0.1))), "p: the p-value of low dose is -1/2")
     expect_equal(where(graph_test(graph, c("0.1", "x"))), "p: the p-value of B is \"x\"")
-    expect_equal(where(graph_test(graph, 0.1)), "p: the number of the p-values is not that of the hypotheses")
+    expect_equal(where(graph_test(graph, 0.1)), "p: 1 given for 2 hypotheses: low dose, B")
     expect_equal(where(graph_test(graph, numeric())), "p: no p-values are given")
     for (call in list(graph_test, graph_bounds, graph_evidence)) expect_equal(where(call(graph, NULL)), "p: no p-values are given")
     for (long in c("1e-39", "0.5e40", paste0("0.", strrep("3", 39)), paste0("1/", strrep("7", 39)), "12345678901234567890e19")) {

@@ -43,6 +43,16 @@ test_that("p-values are handed back as they were given, and doubles are on the s
     # the levels of a closed test
     closed <- as.data.frame(graph_test_closure(pair(), c(0.0125 + 2^-59, 1)))
     expect_equal(unname(0.0125 + 2^-59 <= closed[["level H1"]]), c(FALSE, TRUE, NA)[match(closed$intersection, c("H1, H2", "H1", "H2"))])
+    # the double nearest to a level that no double is read as: its decimal is above the level or below it
+    sides <- vapply(1:20, function(n) {
+      p <- n / 3999640
+      decimal <- welungad:::fraction(as_exact(p)$read) <= gmp::as.bigq(n, 3999640)
+      closed <- as.data.frame(graph_test_closure(graph_create(c(H1 = paste0(n, "/99991")), matrix("0", 1, 1)), p, 0.025))
+      expect_identical(p <= closed[["level H1"]], as.logical(decimal), info = n)
+      expect_identical(closed$p_local <= 0.025, closed$local, info = n)
+      as.logical(decimal)
+    }, NA)
+    expect_true(any(sides) && any(!sides))
   })
 })
 
