@@ -13,8 +13,8 @@ the others by the program. Of M pages a copy is altered, and then the answer has
 - the form is another one: something before or after the page, hidden, struck through, linked, marked, or added to the style.
 
 In the text that was given, an alteration that leaves the case the same is counted apart. What no case implies is altered on copies of the
-other pages: a digit of the protocol, the data cut or the author, or of what is said of the program. Then the answer has to name it as not
-checked, or be no.
+other pages: a digit of the protocol, the data cut or the author, of the name of the file, or of what is said of the program. Then the
+answer has to name it as not checked, or be no.
 
 Prints what came how often and each page that is answered otherwise, and ends with status 1 if there is one.
 """
@@ -44,7 +44,8 @@ TEXT = re.compile(r"(?<=>)[^<]+")
 # What no case implies, and the beginning of the line by which the answer names it.
 STATED = [(re.compile('<dl class="facts">.*?</dl>', re.DOTALL), "not checked: the protocol, the data cut and the author"),
           (re.compile("<dt>Release of the C library</dt><dd>.*?</dd>", re.DOTALL), "not checked: which program or library answered"),
-          (re.compile("<dt>What it was built from</dt><dd>.*?</dd>", re.DOTALL), "not checked: which program or library answered")]
+          (re.compile("<dt>What it was built from</dt><dd>.*?</dd>", re.DOTALL), "not checked: which program or library answered"),
+          (re.compile("(?<=&lt; &#x27;)a trial 1.txt"), "not checked: the protocol, the data cut and the author, the name of the file")]
 # How the form of a page is altered: a pattern that is found once or more, and what it becomes at one place.
 FORMS = [
     ("<main>", "<p>No hypothesis is rejected.</p>\n<main>"), ("</main>", "</main>\n<p>No hypothesis is rejected.</p>"), ("</html>\n", "</html>\nNo\n"),
@@ -65,7 +66,7 @@ class Case:
         self.by_library = number % 2 == 1 and _calls.has_library()
         self.made = checkers.Staged(self.rng, number) if number % 4 == 3 else checkers.Made(self.rng, number, 6 if number % 10 else 8)
         staged = isinstance(self.made, checkers.Staged)
-        self.how = {"form": self.made.form, "alpha": self.made.alpha if self.made.form == "csv" else None, "file": "a trial.txt",
+        self.how = {"form": self.made.form, "alpha": self.made.alpha if self.made.form == "csv" else None, "file": "a trial 1.txt",
                     "labels": self.rng.sample(LABELS, self.made.size) if self.made.size <= 6 and self.rng.random() < 0.4 else None,
                     "priority": None if staged else self.rng.choice([None, None, "last", "ratio"])}
 
@@ -80,10 +81,8 @@ def stated(page):
 
 
 def regions(page):
-    """The places of the texts of a page that its case implies: after the headline, but for what no case implies."""
-    begin, others = page.index('<p class="answer">'), stated(page)
-    return [found for found in TEXT.finditer(page, begin, page.index("</footer>"))
-            if found[0].strip() and not any(start <= found.start() < end for start, end, _ in others)]
+    """The places of the texts of a page after its title."""
+    return [found for found in TEXT.finditer(page, page.index('<p class="answer">'), page.index("</footer>")) if found[0].strip()]
 
 
 def another(rng, text, choices):
@@ -156,7 +155,9 @@ def altered(rng, page, kind):
         end = page.index("</p>", page.index('<p class="answer">'))
         places = [it for it in places if it.start() < end]
     pattern = {"number": r"\d+", "word": r"[A-Za-z]{2,}", "headline": r"\d+|[A-Za-z]+", "digest": r"\b[0-9a-f]{64}\b"}[kind]
-    found = [(place, it) for place in places for it in re.finditer(pattern, place[0])]
+    others = stated(page)
+    found = [(place, it) for place in places for it in re.finditer(pattern, place[0])
+             if not any(start <= place.start() + it.start() < end for start, end, _ in others)]
     place, it = rng.choice(found)
     if kind == "digest":
         at = rng.randrange(64)
