@@ -2,6 +2,14 @@
 //! line by hand.
 #![tactic(auto)]
 
+/// A table of rows. Each has a line of its own, since the formatter leaves what stands between the braces of a macro.
+#[cfg(test)]
+macro_rules! table {
+    ($($row:expr),* $(,)?) => {
+        &[$($row),*]
+    };
+}
+
 #[cfg(test)]
 mod devices;
 #[cfg(test)]

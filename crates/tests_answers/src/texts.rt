@@ -37,24 +37,8 @@ const ALL_REJECTED: Row = Row {
     steps: &[(1, (1, 3)), (0, (1, 2)), (2, (1, 1))],
     kept: &[],
     adjusted: &[((1, 50), true), ((3, 200), true), ((1, 50), true)],
-    text: "alpha 1/40\n\
-        step 1 H2 p 1/200 weight 1/3\n\
-        step 2 H1 p 1/100 weight 1/2\n\
-        step 3 H3 p 1/50 weight 1\n\
-        rejected H1 H2 H3\n\
-        adjusted H1 1/50\n\
-        adjusted H2 3/200\n\
-        adjusted H3 1/50\n\
-        end\n",
-};
-
-const NONE_REJECTED: Row = Row {
-    alpha: (1, 20),
-    hypotheses: &[("H1", (1, 1))],
-    steps: &[],
-    kept: &[(0, (1, 1))],
-    adjusted: &[((1, 1), true)],
-    text: "alpha 1/20\nkept H1 p 1 weight 1\nrejected\nadjusted H1 1\nend\n",
+    text: "alpha 1/40\nstep 1 H2 p 1/200 weight 1/3\nstep 2 H1 p 1/100 weight 1/2\nstep 3 H3 p 1/50 weight 1\n\
+        rejected H1 H2 H3\nadjusted H1 1/50\nadjusted H2 3/200\nadjusted H3 1/50\nend\n",
 };
 
 const ONE_OF_TWO: Row = Row {
@@ -63,134 +47,43 @@ const ONE_OF_TWO: Row = Row {
     steps: &[(0, (1, 2))],
     kept: &[(1, (1, 2))],
     adjusted: &[((1, 20), true), ((13, 250), true)],
-    text: "alpha 1/20\n\
-        step 1 H1 p 1/40 weight 1/2\n\
-        kept H2 p 13/500 weight 1/2\n\
-        rejected H1\n\
-        adjusted H1 1/20\n\
-        adjusted H2 13/250\n\
-        end\n",
+    text: "alpha 1/20\nstep 1 H1 p 1/40 weight 1/2\nkept H2 p 13/500 weight 1/2\n\
+        rejected H1\nadjusted H1 1/20\nadjusted H2 13/250\nend\n",
 };
 
-/// The retained hypothesis is between the others.
-const THREE_OF_FOUR: Row = Row {
-    alpha: (1, 20),
-    hypotheses: &[
-        ("H1", (1, 50)),
-        ("H2", (1, 25)),
-        ("H3", (1, 100)),
-        ("H4", (1, 50)),
-    ],
-    steps: &[(0, (1, 2)), (2, (1, 4)), (3, (1, 2))],
-    kept: &[(1, (1, 2))],
-    adjusted: &[
-        ((1, 25), true),
-        ((2, 25), true),
-        ((1, 25), true),
-        ((1, 25), true),
-    ],
-    text: "alpha 1/20\n\
-        step 1 H1 p 1/50 weight 1/2\n\
-        step 2 H3 p 1/100 weight 1/4\n\
-        step 3 H4 p 1/50 weight 1/2\n\
-        kept H2 p 1/25 weight 1/2\n\
-        rejected H1 H3 H4\n\
-        adjusted H1 1/25\n\
-        adjusted H2 2/25\n\
-        adjusted H3 1/25\n\
-        adjusted H4 1/25\n\
-        end\n",
-};
-
-const TWO_KEPT: Row = Row {
-    alpha: (1, 20),
-    hypotheses: &[
-        ("dose-high", (1, 100)),
-        ("dose.low", (9, 10)),
-        ("late_end", (0, 1)),
-    ],
-    steps: &[(0, (1, 1))],
-    kept: &[(1, (1, 1)), (2, (0, 1))],
-    adjusted: &[((1, 100), true), ((9, 10), true), ((1, 1), false)],
-    text: "alpha 1/20\n\
-        step 1 dose-high p 1/100 weight 1\n\
-        kept dose.low p 9/10 weight 1\n\
-        kept late_end p 0 weight 0\n\
-        rejected dose-high\n\
-        adjusted dose-high 1/100\n\
-        adjusted dose.low 9/10\n\
-        adjusted late_end 1 not reached\n\
-        end\n",
-};
-
-/// Eleven hypotheses are rejected, from the last to the first.
-const ELEVEN_STEPS: Row = Row {
-    alpha: (1, 1),
-    hypotheses: &[
-        ("A", (0, 1)),
-        ("B", (0, 1)),
-        ("C", (0, 1)),
-        ("D", (0, 1)),
-        ("E", (0, 1)),
-        ("F", (0, 1)),
-        ("G", (0, 1)),
-        ("H", (0, 1)),
-        ("I", (0, 1)),
-        ("J", (0, 1)),
-        ("K", (0, 1)),
-    ],
-    steps: &[
-        (10, (1, 11)),
-        (9, (1, 10)),
-        (8, (1, 9)),
-        (7, (1, 8)),
-        (6, (1, 7)),
-        (5, (1, 6)),
-        (4, (1, 5)),
-        (3, (1, 4)),
-        (2, (1, 3)),
-        (1, (1, 2)),
-        (0, (1, 1)),
-    ],
-    kept: &[],
-    adjusted: &[
-        ((0, 1), true),
-        ((0, 1), true),
-        ((0, 1), true),
-        ((0, 1), true),
-        ((0, 1), true),
-        ((0, 1), true),
-        ((0, 1), true),
-        ((0, 1), true),
-        ((0, 1), true),
-        ((0, 1), true),
-        ((0, 1), true),
-    ],
-    text: "alpha 1\n\
-        step 1 K p 0 weight 1/11\n\
-        step 2 J p 0 weight 1/10\n\
-        step 3 I p 0 weight 1/9\n\
-        step 4 H p 0 weight 1/8\n\
-        step 5 G p 0 weight 1/7\n\
-        step 6 F p 0 weight 1/6\n\
-        step 7 E p 0 weight 1/5\n\
-        step 8 D p 0 weight 1/4\n\
-        step 9 C p 0 weight 1/3\n\
-        step 10 B p 0 weight 1/2\n\
-        step 11 A p 0 weight 1\n\
-        rejected A B C D E F G H I J K\n\
-        adjusted A 0\n\
-        adjusted B 0\n\
-        adjusted C 0\n\
-        adjusted D 0\n\
-        adjusted E 0\n\
-        adjusted F 0\n\
-        adjusted G 0\n\
-        adjusted H 0\n\
-        adjusted I 0\n\
-        adjusted J 0\n\
-        adjusted K 0\n\
-        end\n",
+const ROWS: &[Row] = table! {
+    ALL_REJECTED,
+    // None is rejected.
+    Row { alpha: (1, 20), hypotheses: &[("H1", (1, 1))], steps: &[], kept: &[(0, (1, 1))], adjusted: &[((1, 1), true)],
+        text: "alpha 1/20\nkept H1 p 1 weight 1\nrejected\nadjusted H1 1\nend\n" },
+    ONE_OF_TWO,
+    // The retained hypothesis is between the others.
+    Row { alpha: (1, 20), hypotheses: &[("H1", (1, 50)), ("H2", (1, 25)), ("H3", (1, 100)), ("H4", (1, 50))],
+        steps: &[(0, (1, 2)), (2, (1, 4)), (3, (1, 2))], kept: &[(1, (1, 2))],
+        adjusted: &[((1, 25), true), ((2, 25), true), ((1, 25), true), ((1, 25), true)],
+        text: "alpha 1/20\nstep 1 H1 p 1/50 weight 1/2\nstep 2 H3 p 1/100 weight 1/4\nstep 3 H4 p 1/50 weight 1/2\n\
+            kept H2 p 1/25 weight 1/2\nrejected H1 H3 H4\n\
+            adjusted H1 1/25\nadjusted H2 2/25\nadjusted H3 1/25\nadjusted H4 1/25\nend\n" },
+    // Two are kept, one of which is not reached.
+    Row { alpha: (1, 20), hypotheses: &[("dose-high", (1, 100)), ("dose.low", (9, 10)), ("late_end", (0, 1))],
+        steps: &[(0, (1, 1))], kept: &[(1, (1, 1)), (2, (0, 1))],
+        adjusted: &[((1, 100), true), ((9, 10), true), ((1, 1), false)],
+        text: "alpha 1/20\nstep 1 dose-high p 1/100 weight 1\nkept dose.low p 9/10 weight 1\nkept late_end p 0 weight 0\n\
+            rejected dose-high\nadjusted dose-high 1/100\nadjusted dose.low 9/10\nadjusted late_end 1 not reached\nend\n" },
+    // Eleven hypotheses are rejected, from the last to the first.
+    Row { alpha: (1, 1),
+        hypotheses: &[("A", (0, 1)), ("B", (0, 1)), ("C", (0, 1)), ("D", (0, 1)), ("E", (0, 1)), ("F", (0, 1)), ("G", (0, 1)),
+            ("H", (0, 1)), ("I", (0, 1)), ("J", (0, 1)), ("K", (0, 1))],
+        steps: &[(10, (1, 11)), (9, (1, 10)), (8, (1, 9)), (7, (1, 8)), (6, (1, 7)), (5, (1, 6)), (4, (1, 5)), (3, (1, 4)),
+            (2, (1, 3)), (1, (1, 2)), (0, (1, 1))],
+        kept: &[],
+        adjusted: &[((0, 1), true), ((0, 1), true), ((0, 1), true), ((0, 1), true), ((0, 1), true), ((0, 1), true),
+            ((0, 1), true), ((0, 1), true), ((0, 1), true), ((0, 1), true), ((0, 1), true)],
+        text: "alpha 1\nstep 1 K p 0 weight 1/11\nstep 2 J p 0 weight 1/10\nstep 3 I p 0 weight 1/9\nstep 4 H p 0 weight 1/8\n\
+            step 5 G p 0 weight 1/7\nstep 6 F p 0 weight 1/6\nstep 7 E p 0 weight 1/5\nstep 8 D p 0 weight 1/4\n\
+            step 9 C p 0 weight 1/3\nstep 10 B p 0 weight 1/2\nstep 11 A p 0 weight 1\nrejected A B C D E F G H I J K\n\
+            adjusted A 0\nadjusted B 0\nadjusted C 0\nadjusted D 0\nadjusted E 0\nadjusted F 0\nadjusted G 0\n\
+            adjusted H 0\nadjusted I 0\nadjusted J 0\nadjusted K 0\nend\n" },
 };
 
 fn fraction(terms: Terms) -> Result<Fraction, FractionFault> {
@@ -294,31 +187,20 @@ fn expect(rt: &impl Abort, alloc: Global, row: &Row) -> Result<(), Fail> {
 
 #[test]
 fn decisions(rt: HostRuntime) -> Result<(), Fail> {
-    expect(&rt, rt.alloc(), &ALL_REJECTED)?;
-    expect(&rt, rt.alloc(), &NONE_REJECTED)?;
-    expect(&rt, rt.alloc(), &ONE_OF_TWO)?;
-    expect(&rt, rt.alloc(), &THREE_OF_FOUR)?;
-    expect(&rt, rt.alloc(), &TWO_KEPT)?;
-    expect(&rt, rt.alloc(), &ELEVEN_STEPS)?;
+    for row in ROWS {
+        expect(&rt, rt.alloc(), row)?;
+    }
     Ok(())
 }
 
 /// Evidence for a case of three hypotheses, whether it holds or not, and what is printed of it if it holds.
-const EVIDENCE: &[(&str, &str)] = &[
+const EVIDENCE: &[(&str, &str)] = table! {
     ("evidence 1\nend\n", "yes\nlisted\nend\n"),
-    (
-        "evidence 1\nstep H3\nstep H1\nflow 1 H3 0\nend\n",
-        "yes\nlisted H3 H1\nend\n",
-    ),
-    (
-        "evidence 2\nstep H2\nkeep H1\nexit 1 H2 0\nkeep H3\nexit 1 H2 0\nend\n",
-        "yes\nlisted H2\nkept H1 H3\nend\n",
-    ),
-    (
-        "evidence 2\nstep H3\nstep H1\nflow 1 H3 0\nstep H2\nflow 1 H3 0\nflow 1 H1 0\nend\n",
-        "yes\nlisted H3 H1 H2\nkept\nend\n",
-    ),
-];
+    ("evidence 1\nstep H3\nstep H1\nflow 1 H3 0\nend\n", "yes\nlisted H3 H1\nend\n"),
+    ("evidence 2\nstep H2\nkeep H1\nexit 1 H2 0\nkeep H3\nexit 1 H2 0\nend\n", "yes\nlisted H2\nkept H1 H3\nend\n"),
+    ("evidence 2\nstep H3\nstep H1\nflow 1 H3 0\nstep H2\nflow 1 H3 0\nflow 1 H1 0\nend\n",
+     "yes\nlisted H3 H1 H2\nkept\nend\n"),
+};
 
 #[test]
 fn evidence(rt: HostRuntime) -> Result<(), Fail> {

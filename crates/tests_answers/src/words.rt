@@ -42,35 +42,16 @@ fn expect(rt: &impl Abort, alloc: Global, words: &[&str], wanted: Wanted) -> Res
     Ok(())
 }
 
-const VALUES: &[(&[&str], Wanted)] = &[
+const VALUES: &[(&[&str], Wanted)] = table! {
     (&["help"], None),
     (&["test"], Some((CaseTask::Test(Priority::First), None))),
     (&["stages", "--form=json"], Some((CaseTask::Stages, None))),
-    (
-        &["test", "--form=json", "--priority", "last"],
-        Some((CaseTask::Test(Priority::Last), None)),
-    ),
-    (
-        &["evidence", "--priority=ratio"],
-        Some((CaseTask::Evidence(Priority::Ratio), None)),
-    ),
-    (
-        &[
-            "test",
-            "--alpha",
-            "0.05",
-            "--priority",
-            "ratio",
-            "--form",
-            "csv",
-        ],
-        Some((CaseTask::Test(Priority::Ratio), Some((1, 20)))),
-    ),
-    (
-        &["test", "--form=csv", "--alpha=-6e-1"],
-        Some((CaseTask::Test(Priority::First), Some((-3, 5)))),
-    ),
-];
+    (&["test", "--form=json", "--priority", "last"], Some((CaseTask::Test(Priority::Last), None))),
+    (&["evidence", "--priority=ratio"], Some((CaseTask::Evidence(Priority::Ratio), None))),
+    (&["test", "--alpha", "0.05", "--priority", "ratio", "--form", "csv"],
+     Some((CaseTask::Test(Priority::Ratio), Some((1, 20))))),
+    (&["test", "--form=csv", "--alpha=-6e-1"], Some((CaseTask::Test(Priority::First), Some((-3, 5))))),
+};
 
 #[test]
 fn words_give_values(rt: HostRuntime) -> Result<(), Fail> {
@@ -186,20 +167,14 @@ fn expect_study(
     Ok(())
 }
 
-const STUDIES: &[(&[&str], Study<'static>)] = &[
+const STUDIES: &[(&[&str], Study<'static>)] = table! {
     (&["study", "looks.txt"], (false, 1, None)),
     (&["study", "--store", "a.db", "-"], (false, 3, Some("a.db"))),
-    (
-        &["study", "a", "--store=", "--form=json"],
-        (true, 1, Some("")),
-    ),
+    (&["study", "a", "--store=", "--form=json"], (true, 1, Some(""))),
     (&["study", "--store=a=b", "c"], (false, 2, Some("a=b"))),
-    (
-        &["study", "--store", "--form=json", "a"],
-        (false, 3, Some("--form=json")),
-    ),
+    (&["study", "--store", "--form=json", "a"], (false, 3, Some("--form=json"))),
     (&["study", "--form", "text", "study"], (false, 3, None)),
-];
+};
 
 #[test]
 fn studies_have_files(rt: HostRuntime) -> Result<(), Fail> {

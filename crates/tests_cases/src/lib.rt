@@ -5,6 +5,14 @@
 //! expressions, texts, sheets and JSON are in `forms`.
 #![tactic(auto)]
 
+/// A table of rows. Each has a line of its own, since the formatter leaves what stands between the braces of a macro.
+#[cfg(test)]
+macro_rules! table {
+    ($($row:expr),* $(,)?) => {
+        &[$($row),*]
+    };
+}
+
 #[cfg(test)]
 mod accepted;
 #[cfg(test)]

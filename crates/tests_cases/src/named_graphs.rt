@@ -52,143 +52,39 @@ fn made(
 const LEVEL: Terms = (1, 20);
 
 /// Graphs at the level 1/20, their p-values, and what their cases hold.
-const MADE: &[(Graph, &str, &str)] = &[
-    (
-        Graph::Holm(1),
-        "",
-        "hypotheses H1
-         component A 1 1",
-    ),
-    (
-        Graph::Holm(3),
-        "1/2 1/2 1/2",
-        "hypotheses H1 H2 H3
-         p 1/2 1/2 1/2
-         component A 1 1/3 1/3 1/3
-         edge A H1 H2 1/2
-         edge A H1 H3 1/2
-         edge A H2 H1 1/2
-         edge A H2 H3 1/2
-         edge A H3 H1 1/2
-         edge A H3 H2 1/2",
-    ),
-    (
-        Graph::FixedSequence(2),
-        "",
-        "hypotheses H1 H2
-         component A 1 1 0
-         edge A H1 H2 1",
-    ),
-    (
-        Graph::Fallback("1/2 1/2"),
-        "",
-        "hypotheses H1 H2
-         component A 1 1/2 1/2
-         edge A H1 H2 1",
-    ),
-    (
-        Graph::EqualFallback(3),
-        "",
-        "hypotheses H1 H2 H3
-         component A 1 1/3 1/3 1/3
-         edge A H1 H2 1
-         edge A H2 H3 1",
-    ),
-    (
-        Graph::Parallel(1, 1),
-        "",
-        "hypotheses H1 H2
-         component A 1 1 0
-         edge A H1 H2 1",
-    ),
-    (
-        Graph::Parallel(1, 3),
-        "",
-        "hypotheses H1 H2 H3 H4
-         component A 1 1 0 0 0
-         edge A H1 H2 1/3
-         edge A H1 H3 1/3
-         edge A H1 H4 1/3
-         edge A H2 H3 1/2
-         edge A H2 H4 1/2
-         edge A H3 H2 1/2
-         edge A H3 H4 1/2
-         edge A H4 H2 1/2
-         edge A H4 H3 1/2",
-    ),
-    (
-        Graph::Parallel(2, 1),
-        "",
-        "hypotheses H1 H2 H3
-         component A 1 1/2 1/2 0
-         edge A H1 H3 1
-         edge A H2 H3 1",
-    ),
-    (
-        Graph::ImprovedParallel(2, 2),
-        "",
-        "hypotheses H1 H2 H3 H4
-         component A 1 1/2 1/2 0 0
-         edge A H1 H3 1/2
-         edge A H1 H4 1/2
-         edge A H2 H3 1/2
-         edge A H2 H4 1/2
-         edge A H3 H1 0 1
-         edge A H3 H4 1 -1
-         edge A H4 H2 0 1
-         edge A H4 H3 1 -1",
-    ),
-    (
-        Graph::ImprovedParallel(1, 1),
-        "",
-        "hypotheses H1 H2
-         component A 1 1 0
-         edge A H1 H2 1
-         edge A H2 H1 0 1",
-    ),
+const MADE: &[(Graph, &str, &str)] = table! {
+    (Graph::Holm(1), "", "hypotheses H1\n component A 1 1"),
+    (Graph::Holm(3), "1/2 1/2 1/2",
+     "hypotheses H1 H2 H3\n p 1/2 1/2 1/2\n\
+      component A 1 1/3 1/3 1/3\n edge A H1 H2 1/2\n edge A H1 H3 1/2\n edge A H2 H1 1/2\n edge A H2 H3 1/2\n\
+      edge A H3 H1 1/2\n edge A H3 H2 1/2"),
+    (Graph::FixedSequence(2), "", "hypotheses H1 H2\n component A 1 1 0\n edge A H1 H2 1"),
+    (Graph::Fallback("1/2 1/2"), "", "hypotheses H1 H2\n component A 1 1/2 1/2\n edge A H1 H2 1"),
+    (Graph::EqualFallback(3), "", "hypotheses H1 H2 H3\n component A 1 1/3 1/3 1/3\n edge A H1 H2 1\n edge A H2 H3 1"),
+    (Graph::Parallel(1, 1), "", "hypotheses H1 H2\n component A 1 1 0\n edge A H1 H2 1"),
+    (Graph::Parallel(1, 3), "",
+     "hypotheses H1 H2 H3 H4\n\
+      component A 1 1 0 0 0\n edge A H1 H2 1/3\n edge A H1 H3 1/3\n edge A H1 H4 1/3\n edge A H2 H3 1/2\n edge A H2 H4 1/2\n\
+      edge A H3 H2 1/2\n edge A H3 H4 1/2\n edge A H4 H2 1/2\n edge A H4 H3 1/2"),
+    (Graph::Parallel(2, 1), "", "hypotheses H1 H2 H3\n component A 1 1/2 1/2 0\n edge A H1 H3 1\n edge A H2 H3 1"),
+    (Graph::ImprovedParallel(2, 2), "",
+     "hypotheses H1 H2 H3 H4\n\
+      component A 1 1/2 1/2 0 0\n edge A H1 H3 1/2\n edge A H1 H4 1/2\n edge A H2 H3 1/2\n edge A H2 H4 1/2\n\
+      edge A H3 H1 0 1\n edge A H3 H4 1 -1\n edge A H4 H2 0 1\n edge A H4 H3 1 -1"),
+    (Graph::ImprovedParallel(1, 1), "", "hypotheses H1 H2\n component A 1 1 0\n edge A H1 H2 1\n edge A H2 H1 0 1"),
     // the turns of the secondary hypotheses begin again
-    (
-        Graph::ImprovedParallel(1, 2),
-        "",
-        "hypotheses H1 H2 H3
-         component A 1 1 0 0
-         edge A H1 H2 1/2
-         edge A H1 H3 1/2
-         edge A H2 H1 0 1
-         edge A H2 H3 1 -1
-         edge A H3 H1 0 1
-         edge A H3 H2 1 -1",
-    ),
-    (
-        Graph::ImprovedParallel(2, 3),
-        "",
-        "hypotheses H1 H2 H3 H4 H5
-         component A 1 1/2 1/2 0 0 0
-         edge A H1 H3 1/3
-         edge A H1 H4 1/3
-         edge A H1 H5 1/3
-         edge A H2 H3 1/3
-         edge A H2 H4 1/3
-         edge A H2 H5 1/3
-         edge A H3 H1 0 1
-         edge A H3 H4 1/2 -1/2
-         edge A H3 H5 1/2 -1/2
-         edge A H4 H2 0 1
-         edge A H4 H3 1/2 -1/2
-         edge A H4 H5 1/2 -1/2
-         edge A H5 H1 0 1
-         edge A H5 H3 1/2 -1/2
-         edge A H5 H4 1/2 -1/2",
-    ),
-    (
-        Graph::Sample(2, 1),
-        "",
-        "hypotheses H1 H2
-         p 12023/50000000 60273/12500000
-         component A 1 1/2 1/2
-         edge A H1 H2 1/2",
-    ),
-];
+    (Graph::ImprovedParallel(1, 2), "",
+     "hypotheses H1 H2 H3\n\
+      component A 1 1 0 0\n edge A H1 H2 1/2\n edge A H1 H3 1/2\n edge A H2 H1 0 1\n edge A H2 H3 1 -1\n edge A H3 H1 0 1\n\
+      edge A H3 H2 1 -1"),
+    (Graph::ImprovedParallel(2, 3), "",
+     "hypotheses H1 H2 H3 H4 H5\n\
+      component A 1 1/2 1/2 0 0 0\n edge A H1 H3 1/3\n edge A H1 H4 1/3\n edge A H1 H5 1/3\n edge A H2 H3 1/3\n\
+      edge A H2 H4 1/3\n edge A H2 H5 1/3\n edge A H3 H1 0 1\n edge A H3 H4 1/2 -1/2\n edge A H3 H5 1/2 -1/2\n\
+      edge A H4 H2 0 1\n edge A H4 H3 1/2 -1/2\n edge A H4 H5 1/2 -1/2\n edge A H5 H1 0 1\n edge A H5 H3 1/2 -1/2\n\
+      edge A H5 H4 1/2 -1/2"),
+    (Graph::Sample(2, 1), "", "hypotheses H1 H2\n p 12023/50000000 60273/12500000\n component A 1 1/2 1/2\n edge A H1 H2 1/2"),
+};
 
 #[test]
 fn graphs_are_made(rt: HostRuntime) {
@@ -207,62 +103,22 @@ fn the_last_sample_is_made(rt: HostRuntime) {
 // ---- graphs that are refused
 
 /// Graphs, their levels and p-values, and why they are refused.
-const REFUSED: &[(Graph, Terms, &str, CatalogueFault)] = &[
+const REFUSED: &[(Graph, Terms, &str, CatalogueFault)] = table! {
     (Graph::Holm(0), LEVEL, "", CatalogueFault::Size(0)),
-    (
-        Graph::FixedSequence(65),
-        LEVEL,
-        "",
-        CatalogueFault::Size(65),
-    ),
+    (Graph::FixedSequence(65), LEVEL, "", CatalogueFault::Size(65)),
     (Graph::Fallback(""), LEVEL, "", CatalogueFault::Size(0)),
     (Graph::EqualFallback(0), LEVEL, "", CatalogueFault::Size(0)),
-    (
-        Graph::EqualFallback(u64::MAX),
-        LEVEL,
-        "",
-        CatalogueFault::Size(u64::MAX),
-    ),
+    (Graph::EqualFallback(u64::MAX), LEVEL, "", CatalogueFault::Size(u64::MAX)),
     (Graph::Parallel(70, 0), LEVEL, "", CatalogueFault::Size(0)),
     (Graph::Parallel(60, 5), LEVEL, "", CatalogueFault::Size(65)),
-    (
-        Graph::ImprovedParallel(u64::MAX, 2),
-        LEVEL,
-        "",
-        CatalogueFault::Size(u64::MAX),
-    ),
-    (
-        Graph::Sample(65, u64::MAX),
-        LEVEL,
-        "",
-        CatalogueFault::Size(65),
-    ),
-    (
-        Graph::Sample(64, 1 << 48),
-        LEVEL,
-        "",
-        CatalogueFault::Seed(1 << 48),
-    ),
+    (Graph::ImprovedParallel(u64::MAX, 2), LEVEL, "", CatalogueFault::Size(u64::MAX)),
+    (Graph::Sample(65, u64::MAX), LEVEL, "", CatalogueFault::Size(65)),
+    (Graph::Sample(64, 1 << 48), LEVEL, "", CatalogueFault::Seed(1 << 48)),
     // faults of their drafts
-    (
-        Graph::Holm(2),
-        (1, 10_001),
-        "",
-        CatalogueFault::Case(CaseFault::PartTooLong(PartPlace::Alpha)),
-    ),
-    (
-        Graph::Holm(2),
-        LEVEL,
-        "1/20",
-        CatalogueFault::Case(CaseFault::PCount(1)),
-    ),
-    (
-        Graph::Fallback("2/3 2/3"),
-        LEVEL,
-        "",
-        CatalogueFault::Case(CaseFault::WeightSum(0)),
-    ),
-];
+    (Graph::Holm(2), (1, 10_001), "", CatalogueFault::Case(CaseFault::PartTooLong(PartPlace::Alpha))),
+    (Graph::Holm(2), LEVEL, "1/20", CatalogueFault::Case(CaseFault::PCount(1))),
+    (Graph::Fallback("2/3 2/3"), LEVEL, "", CatalogueFault::Case(CaseFault::WeightSum(0))),
+};
 
 #[test]
 fn graphs_are_refused(rt: HostRuntime) {

@@ -12,10 +12,7 @@ use std::process::Abort;
 type Value = (i128, i128, bool);
 
 /// The ratios are 1 and 2: the first is reached at the level 1, and the run stops before the second.
-const UP_TO_ONE: &str = "alpha 0.05\n\
-    hypotheses H1 H2\n\
-    p 1 0.5\n\
-    weights 1/2 1/2\n";
+const UP_TO_ONE: &str = "alpha 0.05\nhypotheses H1 H2\np 1 0.5\nweights 1/2 1/2\n";
 
 const ROWS: &[(&str, &[Value])] = &[
     // Without edges each value is the p-value over the weight: 2 times 1/40, and 2 times 13/500.
@@ -63,50 +60,18 @@ fn values_by_hand(rt: HostRuntime) {
 }
 
 /// The ratio is 10^30 - 11 times 10^12 - 11, over 10^30: in lowest terms, with a numerator above 2^127.
-const WIDE: &str = "alpha 0.05\n\
-    hypotheses H1\n\
-    p 0.999999999999999999999999999989\n\
-    weights 1/999999999989\n";
+const WIDE: &str =
+    "alpha 0.05\nhypotheses H1\np 0.999999999999999999999999999989\nweights 1/999999999989\n";
 
 /// Cases whose runs are undefined, and where they are.
-const FAULTS: &[(&str, RunFault)] = &[
+const FAULTS: &[(&str, RunFault)] = table! {
     // The opening is step 0.
-    (
-        WIDE_OPENING,
-        RunFault::Wide(
-            0,
-            WideAt {
-                component: 0,
-                place: Place::Edge(0, 1),
-                op: Op::Add,
-            },
-        ),
-    ),
-    (
-        WIDE,
-        RunFault::Wide(
-            1,
-            WideAt {
-                component: 0,
-                place: Place::Ratio(0),
-                op: Op::Div,
-            },
-        ),
-    ),
+    (WIDE_OPENING, RunFault::Wide(0, WideAt { component: 0, place: Place::Edge(0, 1), op: Op::Add })),
+    (WIDE, RunFault::Wide(1, WideAt { component: 0, place: Place::Ratio(0), op: Op::Div })),
     // H1 and H2 are rejected, and H3 passes on to H4: its weight would be 1/10^18 times 1/999999999999999999 times
     // 1/999999999999999997.
-    (
-        CHAIN,
-        RunFault::Wide(
-            3,
-            WideAt {
-                component: 0,
-                place: Place::Weight(3),
-                op: Op::Mul,
-            },
-        ),
-    ),
-];
+    (CHAIN, RunFault::Wide(3, WideAt { component: 0, place: Place::Weight(3), op: Op::Mul })),
+};
 
 /// Whether the first operation that is undefined is reported, with its step.
 #[test]

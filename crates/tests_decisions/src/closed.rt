@@ -1,6 +1,7 @@
 //! Weights and answers of all sets by hand.
 use crate::cases::{
-    CHAIN, HOLM, IMPROVED_GATEKEEPING, Parts, SEQUENCE, WIDE_OPENING, case_of, expect, fits,
+    CHAIN, ENTANGLED, HOLM, IMPROVED_GATEKEEPING, Parts, SEQUENCE, WIDE_OPENING, case_of, expect,
+    fits,
 };
 use closed_test::{ClosedFault, ClosedTable, WeightTable, sets_in_order};
 use field_core::{Op, Place, WideAt};
@@ -11,83 +12,19 @@ use std::process::Abort;
 /// A set, one of its members, and the weight of the member there.
 type Weight = (u32, usize, Parts);
 
-/// Two components of share 1/2: the first gives all to H1, the second all to H2, and each passes it on to the other.
-const ENTANGLED: &str = "alpha 0.05\n\
-    hypotheses H1 H2\n\
-    p 0.02 0.04\n\
-    component 1/2\n\
-    weights 1 0\n\
-    edge H1 H2 1\n\
-    component 1/2\n\
-    weights 0 1\n\
-    edge H2 H1 1\n";
-
-const WEIGHTS: &[(&str, &[Weight])] = &[
+const WEIGHTS: &[(&str, &[Weight])] = table! {
     // The members of each set share the level.
-    (
-        HOLM,
-        &[
-            (7, 0, (1, 3)),
-            (7, 1, (1, 3)),
-            (7, 2, (1, 3)),
-            (6, 1, (1, 2)),
-            (6, 2, (1, 2)),
-            (5, 0, (1, 2)),
-            (5, 2, (1, 2)),
-            (3, 0, (1, 2)),
-            (3, 1, (1, 2)),
-            (4, 2, (1, 1)),
-            (2, 1, (1, 1)),
-            (1, 0, (1, 1)),
-        ],
-    ),
-    (
-        ENTANGLED,
-        &[
-            (3, 0, (1, 2)),
-            (3, 1, (1, 2)),
-            (2, 1, (1, 1)),
-            (1, 0, (1, 1)),
-        ],
-    ),
-    (
-        IMPROVED_GATEKEEPING,
-        &[
-            (15, 0, (1, 2)),
-            (15, 1, (1, 2)),
-            (15, 2, (0, 1)),
-            (15, 3, (0, 1)),
-            (14, 1, (1, 2)),
-            (14, 2, (1, 4)),
-            (14, 3, (1, 4)),
-            (12, 2, (1, 2)),
-            (12, 3, (1, 2)),
-            (8, 3, (1, 1)),
-            (4, 2, (1, 1)),
-            (10, 1, (1, 2)),
-            (10, 3, (1, 2)),
-            (2, 1, (1, 1)),
-            (6, 1, (1, 2)),
-            (6, 2, (1, 2)),
-            (13, 0, (1, 2)),
-            (13, 2, (1, 4)),
-            (13, 3, (1, 4)),
-            (9, 0, (1, 2)),
-            (9, 3, (1, 2)),
-            (1, 0, (1, 1)),
-            (5, 0, (1, 2)),
-            (5, 2, (1, 2)),
-            (11, 0, (1, 2)),
-            (11, 1, (1, 2)),
-            (11, 3, (0, 1)),
-            (3, 0, (1, 2)),
-            (3, 1, (1, 2)),
-            (7, 0, (1, 2)),
-            (7, 1, (1, 2)),
-            (7, 2, (0, 1)),
-        ],
-    ),
-];
+    (HOLM,
+     &[(7, 0, (1, 3)), (7, 1, (1, 3)), (7, 2, (1, 3)), (6, 1, (1, 2)), (6, 2, (1, 2)), (5, 0, (1, 2)), (5, 2, (1, 2)),
+       (3, 0, (1, 2)), (3, 1, (1, 2)), (4, 2, (1, 1)), (2, 1, (1, 1)), (1, 0, (1, 1))]),
+    (ENTANGLED, &[(3, 0, (1, 2)), (3, 1, (1, 2)), (2, 1, (1, 1)), (1, 0, (1, 1))]),
+    (IMPROVED_GATEKEEPING,
+     &[(15, 0, (1, 2)), (15, 1, (1, 2)), (15, 2, (0, 1)), (15, 3, (0, 1)), (14, 1, (1, 2)), (14, 2, (1, 4)), (14, 3, (1, 4)),
+       (12, 2, (1, 2)), (12, 3, (1, 2)), (8, 3, (1, 1)), (4, 2, (1, 1)), (10, 1, (1, 2)), (10, 3, (1, 2)), (2, 1, (1, 1)),
+       (6, 1, (1, 2)), (6, 2, (1, 2)), (13, 0, (1, 2)), (13, 2, (1, 4)), (13, 3, (1, 4)), (9, 0, (1, 2)), (9, 3, (1, 2)),
+       (1, 0, (1, 1)), (5, 0, (1, 2)), (5, 2, (1, 2)), (11, 0, (1, 2)), (11, 1, (1, 2)), (11, 3, (0, 1)), (3, 0, (1, 2)),
+       (3, 1, (1, 2)), (7, 0, (1, 2)), (7, 1, (1, 2)), (7, 2, (0, 1))]),
+};
 
 /// Whether the members of the sets have these weights.
 fn has_weights(rt: &impl Abort, table: &WeightTable, wanted: &[Weight]) -> bool {
@@ -142,42 +79,20 @@ fn answers_of_all_sets(rt: HostRuntime) {
 }
 
 /// 17 hypotheses.
-const MANY: &str = "alpha 0.05\n\
-    hypotheses A B C D E F G H I J K L M N O P Q\n\
-    weights 1 0 0 0 0 0 0 0 0 0 0 0 0 0 0 0 0\n";
+const MANY: &str =
+    "alpha 0.05\nhypotheses A B C D E F G H I J K L M N O P Q\nweights 1 0 0 0 0 0 0 0 0 0 0 0 0 0 0 0 0\n";
 
 /// 18 hypotheses.
-const ONE_MORE: &str = "alpha 0.05\n\
-    hypotheses A B C D E F G H I J K L M N O P Q R\n\
+const ONE_MORE: &str = "alpha 0.05\nhypotheses A B C D E F G H I J K L M N O P Q R\n\
     weights 1 0 0 0 0 0 0 0 0 0 0 0 0 0 0 0 0 0\n";
 
-const FAULTS: &[(&str, ClosedFault)] = &[
+const FAULTS: &[(&str, ClosedFault)] = table! {
     // The weight of H4 alone would be 1/10^18 times 1/999999999999999999 times 1/999999999999999997.
-    (
-        CHAIN,
-        ClosedFault::Wide(
-            8,
-            WideAt {
-                component: 0,
-                place: Place::Weight(3),
-                op: Op::Mul,
-            },
-        ),
-    ),
-    (
-        WIDE_OPENING,
-        ClosedFault::Wide(
-            3,
-            WideAt {
-                component: 0,
-                place: Place::Edge(0, 1),
-                op: Op::Add,
-            },
-        ),
-    ),
+    (CHAIN, ClosedFault::Wide(8, WideAt { component: 0, place: Place::Weight(3), op: Op::Mul })),
+    (WIDE_OPENING, ClosedFault::Wide(3, WideAt { component: 0, place: Place::Edge(0, 1), op: Op::Add })),
     (MANY, ClosedFault::TooMany(17)),
     (ONE_MORE, ClosedFault::TooMany(18)),
-];
+};
 
 /// Whether the first set whose run is undefined is reported, and more than sixteen hypotheses are refused.
 #[test]

@@ -5,7 +5,7 @@ ghost use Rattle.case_model.specs.Draft.{is_p_value};
 
 use crate::cases::{
     BARE_HOLM, CHAIN, EPSILON, FALLBACK, HOLM, IMPROVED_GATEKEEPING, NO_WEIGHT, Parts, SEQUENCE,
-    TIE, case_of, expect,
+    TIE, WIDE_OPENING, case_of, expect,
 };
 use case_model::is_p_value;
 use field_core::{Op, Place, WideAt};
@@ -29,107 +29,38 @@ struct Row<'a> {
 const ALL: &[Priority] = &[Priority::First, Priority::Last, Priority::Ratio];
 
 /// Two primary hypotheses and two secondary ones.
-const GATEKEEPING: &str = "alpha 0.05\n\
-    hypotheses H1 H2 H3 H4\n\
-    p 0.02 0.04 0.01 0.02\n\
-    weights 1/2 1/2 0 0\n\
-    edge H1 H3 1/2\n\
-    edge H1 H4 1/2\n\
-    edge H2 H3 1/2\n\
-    edge H2 H4 1/2\n\
-    edge H3 H4 1\n\
-    edge H4 H3 1\n";
+const GATEKEEPING: &str =
+    "alpha 0.05\nhypotheses H1 H2 H3 H4\np 0.02 0.04 0.01 0.02\nweights 1/2 1/2 0 0\n\
+    edge H1 H3 1/2\nedge H1 H4 1/2\nedge H2 H3 1/2\nedge H2 H4 1/2\nedge H3 H4 1\nedge H4 H3 1\n";
 
 /// All three have the same ratio.
-const EQUAL: &str = "alpha 0.05\n\
-    hypotheses H1 H2 H3\n\
-    p 0.02 0.01 0.01\n\
-    weights 1/2 1/4 1/4\n";
+const EQUAL: &str = "alpha 0.05\nhypotheses H1 H2 H3\np 0.02 0.01 0.01\nweights 1/2 1/4 1/4\n";
 
 /// The chain without its last edge.
-const CHAIN_OF_TWO: &str = "alpha 0.05\n\
-    hypotheses H1 H2 H3 H4\n\
-    p 0 0 0 0\n\
-    weights 1 0 0 0\n\
-    edge H1 H2 1/1000000000000000000\n\
-    edge H2 H3 1/999999999999999999\n";
+const CHAIN_OF_TWO: &str = "alpha 0.05\nhypotheses H1 H2 H3 H4\np 0 0 0 0\nweights 1 0 0 0\n\
+    edge H1 H2 1/1000000000000000000\nedge H2 H3 1/999999999999999999\n";
 
-const ROWS: &[Row] = &[
+const ROWS: &[Row] = table! {
     // In more than one pass.
-    Row {
-        case: HOLM,
-        priorities: ALL,
-        steps: &[(1, (1, 3)), (0, (1, 2)), (2, (1, 1))],
-        kept: &[],
-    },
+    Row { case: HOLM, priorities: ALL, steps: &[(1, (1, 3)), (0, (1, 2)), (2, (1, 1))], kept: &[] },
     // A p-value at the limit rejects.
-    Row {
-        case: TIE,
-        priorities: ALL,
-        steps: &[(0, (1, 2))],
-        kept: &[(1, (1, 2))],
-    },
-    Row {
-        case: GATEKEEPING,
-        priorities: ALL,
-        steps: &[(0, (1, 2)), (2, (1, 4)), (3, (1, 2))],
-        kept: &[(1, (1, 2))],
-    },
+    Row { case: TIE, priorities: ALL, steps: &[(0, (1, 2))], kept: &[(1, (1, 2))] },
+    Row { case: GATEKEEPING, priorities: ALL, steps: &[(0, (1, 2)), (2, (1, 4)), (3, (1, 2))], kept: &[(1, (1, 2))] },
     // What the secondary ones pass back rejects the other primary one.
-    Row {
-        case: IMPROVED_GATEKEEPING,
-        priorities: ALL,
-        steps: &[(0, (1, 2)), (2, (1, 4)), (3, (1, 2)), (1, (1, 1))],
-        kept: &[],
-    },
-    Row {
-        case: EPSILON,
-        priorities: ALL,
-        steps: &[(0, (1, 1))],
-        kept: &[(1, (1, 1)), (2, (0, 1))],
-    },
+    Row { case: IMPROVED_GATEKEEPING, priorities: ALL, steps: &[(0, (1, 2)), (2, (1, 4)), (3, (1, 2)), (1, (1, 1))],
+        kept: &[] },
+    Row { case: EPSILON, priorities: ALL, steps: &[(0, (1, 1))], kept: &[(1, (1, 1)), (2, (0, 1))] },
     // Equal ratios go by position.
-    Row {
-        case: EQUAL,
-        priorities: &[Priority::First, Priority::Ratio],
-        steps: &[(0, (1, 2)), (1, (1, 4)), (2, (1, 4))],
-        kept: &[],
-    },
-    Row {
-        case: EQUAL,
-        priorities: &[Priority::Last],
-        steps: &[(2, (1, 4)), (1, (1, 4)), (0, (1, 2))],
-        kept: &[],
-    },
-    Row {
-        case: NO_WEIGHT,
-        priorities: ALL,
-        steps: &[],
-        kept: &[(0, (1, 1)), (1, (0, 1))],
-    },
-    Row {
-        case: FALLBACK,
-        priorities: &[Priority::First],
-        steps: &[(2, (1, 3))],
-        kept: &[(0, (1, 3)), (1, (1, 3))],
-    },
-    Row {
-        case: SEQUENCE,
-        priorities: &[Priority::First],
-        steps: &[(0, (1, 1))],
-        kept: &[(1, (1, 1)), (2, (0, 1))],
-    },
-    Row {
-        case: CHAIN_OF_TWO,
-        priorities: &[Priority::First],
-        steps: &[
-            (0, (1, 1)),
-            (1, (1, 1_000_000_000_000_000_000)),
-            (2, (1, 999_999_999_999_999_999_000_000_000_000_000_000)),
-        ],
-        kept: &[(3, (0, 1))],
-    },
-];
+    Row { case: EQUAL, priorities: &[Priority::First, Priority::Ratio], steps: &[(0, (1, 2)), (1, (1, 4)), (2, (1, 4))],
+        kept: &[] },
+    Row { case: EQUAL, priorities: &[Priority::Last], steps: &[(2, (1, 4)), (1, (1, 4)), (0, (1, 2))], kept: &[] },
+    Row { case: NO_WEIGHT, priorities: ALL, steps: &[], kept: &[(0, (1, 1)), (1, (0, 1))] },
+    Row { case: FALLBACK, priorities: &[Priority::First], steps: &[(2, (1, 3))], kept: &[(0, (1, 3)), (1, (1, 3))] },
+    Row { case: SEQUENCE, priorities: &[Priority::First], steps: &[(0, (1, 1))], kept: &[(1, (1, 1)), (2, (0, 1))] },
+    Row { case: CHAIN_OF_TWO, priorities: &[Priority::First],
+        steps: &[(0, (1, 1)), (1, (1, 1_000_000_000_000_000_000)), (2, (1, 999_999_999_999_999_999_000_000_000_000_000_000))],
+        kept: &[(3, (0, 1))] },
+};
 
 fn decided(
     rt: &impl Abort,
@@ -178,37 +109,16 @@ fn decisions_by_hand(rt: HostRuntime) {
 }
 
 /// P-values in place of those of a case, and how the case is decided with them.
-const WITH_OTHERS: &[(&[Parts], Row)] = &[
+const WITH_OTHERS: &[(&[Parts], Row)] = table! {
     // Of 1/50, 1/100 and 1/40 the second is at most 0.05/3; then the others are at most 0.025.
-    (
-        &[(1, 50), (1, 100), (1, 40)],
-        Row {
-            case: BARE_HOLM,
-            priorities: &[Priority::First, Priority::Ratio],
-            steps: &[(1, (1, 3)), (0, (1, 2)), (2, (1, 1))],
-            kept: &[],
-        },
-    ),
-    (
-        &[(1, 50), (1, 100), (1, 40)],
-        Row {
-            case: BARE_HOLM,
-            priorities: &[Priority::Last],
-            steps: &[(1, (1, 3)), (2, (1, 2)), (0, (1, 1))],
-            kept: &[],
-        },
-    ),
+    (&[(1, 50), (1, 100), (1, 40)],
+     Row { case: BARE_HOLM, priorities: &[Priority::First, Priority::Ratio], steps: &[(1, (1, 3)), (0, (1, 2)), (2, (1, 1))],
+       kept: &[] }),
+    (&[(1, 50), (1, 100), (1, 40)],
+     Row { case: BARE_HOLM, priorities: &[Priority::Last], steps: &[(1, (1, 3)), (2, (1, 2)), (0, (1, 1))], kept: &[] }),
     // Its own p-values would reject all three.
-    (
-        &[(1, 1), (0, 1), (1, 1)],
-        Row {
-            case: HOLM,
-            priorities: ALL,
-            steps: &[(1, (1, 3))],
-            kept: &[(0, (1, 2)), (2, (1, 2))],
-        },
-    ),
-];
+    (&[(1, 1), (0, 1), (1, 1)], Row { case: HOLM, priorities: ALL, steps: &[(1, (1, 3))], kept: &[(0, (1, 2)), (2, (1, 2))] }),
+};
 
 /// Returns fractions of these parts.
 fn fractions(alloc: Global, parts: &[Parts]) -> Result<Vec<Fraction>, Fail> {
@@ -255,16 +165,9 @@ fn decisions_with_other_p_values(rt: HostRuntime) -> Result<(), Fail> {
     Ok(())
 }
 
-/// An edge whose coefficients have no common factor.
-const WIDE_EDGE: &str = "alpha 0.05\n\
-    hypotheses H1 H2\n\
-    p 0 0\n\
-    weights 1 0\n\
-    edge H1 H2 1/1000000000000000000+1/999999999999999999*\\epsilon+1/999999999999999997*\\epsilon^2\n";
-
 /// Cases, each with the step, 0 for the opening, and the place and the operation at which it is too wide.
 const WIDE: &[(&str, usize, Place, Op)] = &[
-    (WIDE_EDGE, 0, Place::Edge(0, 1), Op::Add),
+    (WIDE_OPENING, 0, Place::Edge(0, 1), Op::Add),
     (CHAIN, 3, Place::Weight(3), Op::Mul),
 ];
 

@@ -3,6 +3,14 @@
 //! `graphs`, and evidence is in `checking`.
 #![tactic(auto)]
 
+/// A table of rows. Each has a line of its own, since the formatter leaves what stands between the braces of a macro.
+#[cfg(test)]
+macro_rules! table {
+    ($($row:expr),* $(,)?) => {
+        &[$($row),*]
+    };
+}
+
 #[cfg(test)]
 mod adjusted;
 #[cfg(test)]

@@ -21,8 +21,8 @@ fn opened(rt: &impl Abort, alloc: Global, case: &Case) -> Study {
 
 /// The p-values have arrived, both hypotheses pass on all to each other, and H1 may be rejected at stage 2. The arrivals of the
 /// case itself don't count.
-const TWO: &str =
-    "alpha 0.05\nhypotheses H1 H2 H3\nweights 1/2 1/2 0\nedge H1 H2 1\nedge H2 H1 1\nstages 2\nspend H1 1/2 1/2\nspend H2 1/2 1/2\nspend H3 1 0\narrive H2 1 0\n";
+const TWO: &str = "alpha 0.05\nhypotheses H1 H2 H3\nweights 1/2 1/2 0\nedge H1 H2 1\nedge H2 H1 1\n\
+    stages 2\nspend H1 1/2 1/2\nspend H2 1/2 1/2\nspend H3 1 0\narrive H2 1 0\n";
 
 /// What is requested for a hypothesis: its arrival at a stage with a p-value, or its rejection.
 #[derive(Clone, Copy)]
@@ -38,28 +38,16 @@ type Given = (usize, Asked);
 type Rejection = (usize, usize, Parts);
 
 /// Events one after another, and the answer to each.
-const ROWS: &[(Given, Result<(), StepFault>)] = &[
+const ROWS: &[(Given, Result<(), StepFault>)] = table! {
     // Nothing has arrived.
     ((0, Asked::Reject), Err(StepFault::NotLegal(0))),
     ((1, Asked::Reject), Err(StepFault::NotLegal(1))),
-    (
-        (0, Asked::Arrive(0, (1, 100))),
-        Err(StepFault::StageRange(0)),
-    ),
-    (
-        (0, Asked::Arrive(3, (1, 100))),
-        Err(StepFault::StageRange(3)),
-    ),
+    ((0, Asked::Arrive(0, (1, 100))), Err(StepFault::StageRange(0))),
+    ((0, Asked::Arrive(3, (1, 100))), Err(StepFault::StageRange(3))),
     ((0, Asked::Arrive(1, (-1, 100))), Err(StepFault::PRange)),
     ((0, Asked::Arrive(1, (101, 100))), Err(StepFault::PRange)),
     // The denominator of the p-value is above 10^30.
-    (
-        (
-            0,
-            Asked::Arrive(1, (1, 1_000_000_000_000_000_000_000_000_000_001)),
-        ),
-        Err(StepFault::PRange),
-    ),
+    ((0, Asked::Arrive(1, (1, 1_000_000_000_000_000_000_000_000_000_001))), Err(StepFault::PRange)),
     ((0, Asked::Arrive(1, (1, 50))), Ok(())),
     // The stage comes before what is known, and that before the p-value.
     ((0, Asked::Arrive(3, (2, 1))), Err(StepFault::StageRange(3))),
@@ -79,7 +67,7 @@ const ROWS: &[(Given, Result<(), StepFault>)] = &[
     ((1, Asked::Arrive(1, (1, 1))), Err(StepFault::Known(1, 1))),
     // A weight of 0.
     ((2, Asked::Arrive(1, (0, 1))), Ok(())),
-];
+};
 
 /// Returns the event of a row.
 fn event(hypothesis: usize, asked: Asked) -> Result<Event, FractionFault>
@@ -119,8 +107,9 @@ fn each_event_is_answered(rt: HostRuntime) -> Result<(), Fail> {
 }
 
 /// After the rejections of H1 to H3 the weight of H4 would be 1/10^18 times 1/999999999999999999 times 1/999999999999999997.
-const TOO_WIDE: &str =
-    "alpha 0.05\nhypotheses H1 H2 H3 H4\nweights 1 0 0 0\nedge H1 H2 1/1000000000000000000\nedge H2 H3 1/999999999999999999\nedge H3 H4 1/999999999999999997\nstages 1\nspend H1 1\nspend H2 1\nspend H3 1\nspend H4 1\n";
+const TOO_WIDE: &str = "alpha 0.05\nhypotheses H1 H2 H3 H4\nweights 1 0 0 0\n\
+    edge H1 H2 1/1000000000000000000\nedge H2 H3 1/999999999999999999\nedge H3 H4 1/999999999999999997\n\
+    stages 1\nspend H1 1\nspend H2 1\nspend H3 1\nspend H4 1\n";
 
 #[test]
 fn rejections_stay_where_a_settling_breaks_off(rt: HostRuntime) -> Result<(), Fail> {

@@ -29,73 +29,30 @@ struct Row<'a> {
     rejected: &'a [usize],
 }
 
-const ROWS: &[Row] = &[
-    Row {
-        case: HOLM,
-        calls: &[
-            (2, Answer::NotLegal((1, 3)), &[]),
-            (1, Answer::Done, &[]),
-            (1, Answer::Again, &[(0, (1, 2))]),
-            (0, Answer::Done, &[]),
-        ],
-        rejected: &[1, 0],
-    },
+const ROWS: &[Row] = table! {
+    Row { case: HOLM,
+        calls: &[(2, Answer::NotLegal((1, 3)), &[]), (1, Answer::Done, &[]), (1, Answer::Again, &[(0, (1, 2))]),
+          (0, Answer::Done, &[])],
+        rejected: &[1, 0] },
     // A rejection that is too wide changes nothing. The weight of H4 would be that of H3 times 1/999999999999999997.
-    Row {
-        case: CHAIN,
-        calls: &[
-            (0, Answer::Done, &[]),
-            (1, Answer::Done, &[(2, LONG)]),
-            (
-                2,
-                Answer::Wide(WideAt {
-                    component: 0,
-                    place: Place::Weight(3),
-                    op: Op::Mul,
-                }),
-                &[(2, LONG), (3, (0, 1))],
-            ),
-        ],
-        rejected: &[0, 1],
-    },
+    Row { case: CHAIN,
+        calls: &[(0, Answer::Done, &[]), (1, Answer::Done, &[(2, LONG)]),
+          (2, Answer::Wide(WideAt { component: 0, place: Place::Weight(3), op: Op::Mul }), &[(2, LONG), (3, (0, 1))])],
+        rejected: &[0, 1] },
     // The same beside H1, which keeps its half of the weight, and would pass all of it to H5.
-    Row {
-        case: BESIDE_A_CHAIN,
-        calls: &[
-            (1, Answer::Done, &[]),
-            (2, Answer::Done, &[]),
-            (
-                3,
-                Answer::Wide(WideAt {
-                    component: 0,
-                    place: Place::Weight(4),
-                    op: Op::Mul,
-                }),
-                &[(0, (1, 2)), (4, (0, 1))],
-            ),
-        ],
-        rejected: &[1, 2],
-    },
-    Row {
-        case: IMPROVED_GATEKEEPING,
-        calls: &[
-            (0, Answer::Done, &[(2, (1, 4))]),
-            (2, Answer::Done, &[(1, (1, 2)), (3, (1, 2))]),
-            (3, Answer::Done, &[(1, (1, 1))]),
-            (1, Answer::Done, &[]),
-        ],
-        rejected: &[0, 2, 3, 1],
-    },
-];
+    Row { case: BESIDE_A_CHAIN,
+        calls: &[(1, Answer::Done, &[]), (2, Answer::Done, &[]),
+          (3, Answer::Wide(WideAt { component: 0, place: Place::Weight(4), op: Op::Mul }), &[(0, (1, 2)), (4, (0, 1))])],
+        rejected: &[1, 2] },
+    Row { case: IMPROVED_GATEKEEPING,
+        calls: &[(0, Answer::Done, &[(2, (1, 4))]), (2, Answer::Done, &[(1, (1, 2)), (3, (1, 2))]),
+          (3, Answer::Done, &[(1, (1, 1))]), (1, Answer::Done, &[])],
+        rejected: &[0, 2, 3, 1] },
+};
 
-const BESIDE_A_CHAIN: &str = "alpha 0.05\n\
-    hypotheses H1 H2 H3 H4 H5\n\
-    p 1 0 0 0 0\n\
-    weights 1/2 1/2 0 0 0\n\
-    edge H1 H5 1\n\
-    edge H2 H3 1/1000000000000000000\n\
-    edge H3 H4 1/999999999999999999\n\
-    edge H4 H5 1/999999999999999997\n";
+const BESIDE_A_CHAIN: &str =
+    "alpha 0.05\nhypotheses H1 H2 H3 H4 H5\np 1 0 0 0 0\nweights 1/2 1/2 0 0 0\n\
+    edge H1 H5 1\nedge H2 H3 1/1000000000000000000\nedge H3 H4 1/999999999999999999\nedge H4 H5 1/999999999999999997\n";
 
 /// The product of the first two edges of the chain.
 const LONG: Parts = (1, 999_999_999_999_999_999_000_000_000_000_000_000);

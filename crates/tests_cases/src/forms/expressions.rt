@@ -7,7 +7,7 @@ use std::alloc::Global;
 use std::process::Abort;
 
 /// Expressions, and their coefficients by ascending power, of which those past the last are 0.
-const ENTRIES: &[(&str, &[Terms])] = &[
+const ENTRIES: &[(&str, &[Terms])] = table! {
     ("0", &[]),
     ("1/3", &[(1, 3)]),
     ("2/4", &[(1, 2)]),
@@ -39,17 +39,8 @@ const ENTRIES: &[(&str, &[Terms])] = &[
     ("\t( - 1.5 + 2 ) ", &[(1, 2)]),
     ("- 1 * ( 2 )", &[(-2, 1)]),
     // 32 parentheses are open at once.
-    (
-        "((((((((\
-         ((((((((\
-         ((((((((\
-         ((((((((1/2))))))))\
-         ))))))))\
-         ))))))))\
-         ))))))))",
-        &[(1, 2)],
-    ),
-];
+    ("((((((((((((((((((((((((((((((((1/2))))))))))))))))))))))))))))))))", &[(1, 2)]),
+};
 
 fn is_worth(expression: &str, coefficients: &[Terms]) -> bool {
     match read_entry(expression.as_bytes()) {
@@ -66,98 +57,32 @@ fn expressions_have_values(rt: HostRuntime) {
 }
 
 /// Faults, and the texts that have them.
-const FAULTS: &[(ExprFault, &[&str])] = &[
+const FAULTS: &[(ExprFault, &[&str])] = table! {
     // No expression continues with this byte.
     (ExprFault::BadByte(0), &["", "*1", ")", "x", "^2"]),
-    (
-        ExprFault::BadByte(1),
-        &["+", "1)", "(", "--1", "1^2", ".", "(*", "()", "\\E", "..5"],
-    ),
+    (ExprFault::BadByte(1), &["+", "1)", "(", "--1", "1^2", ".", "(*", "()", "\\E", "..5"]),
     (ExprFault::BadByte(2), &["1 5", "1+", "- -1", "1 e5", "1e"]),
-    (
-        ExprFault::BadByte(3),
-        &["1. 5", "1e+", "1e+x", "(1 ", "\\epx"],
-    ),
+    (ExprFault::BadByte(3), &["1. 5", "1e+", "1e+x", "(1 ", "\\epx"]),
     (ExprFault::BadByte(9), &["\\epsilon 2", "\\epsilon^"]),
     (ExprFault::BadByte(10), &["\\epsilon^2.5", "\\epsilon^22"]),
     // Expressions whose values are refused.
-    (
-        ExprFault::DivisorNotNumber,
-        &["1/\\epsilon", "0/\\epsilon", "1/(1+\\epsilon)"],
-    ),
-    (
-        ExprFault::ZeroDivisor,
-        &[
-            "1/0",
-            "1/(\\epsilon-\\epsilon)",
-            "0/0",
-            "\\epsilon/0/\\epsilon",
-        ],
-    ),
-    (
-        ExprFault::Degree,
-        &[
-            "\\epsilon^5",
-            "0*\\epsilon^5",
-            "\\epsilon^2*\\epsilon^3",
-            "\\epsilon^9/0",
-        ],
-    ),
-    (
-        ExprFault::Part,
-        &[
-            "1000000000000000001",
-            "1/1000000000000000001",
-            "2000000000000000000/2000000000000000000",
-            "1000000000*10000000000",
-            "1/999999999/9999999999",
-            "1/999999999+1/9999999999",
-            "1e39",
-            "1e19*0",
-            "1000000000000000000+1-1",
-        ],
-    ),
+    (ExprFault::DivisorNotNumber, &["1/\\epsilon", "0/\\epsilon", "1/(1+\\epsilon)"]),
+    (ExprFault::ZeroDivisor, &["1/0", "1/(\\epsilon-\\epsilon)", "0/0", "\\epsilon/0/\\epsilon"]),
+    (ExprFault::Degree, &["\\epsilon^5", "0*\\epsilon^5", "\\epsilon^2*\\epsilon^3", "\\epsilon^9/0"]),
+    (ExprFault::Part,
+     &["1000000000000000001", "1/1000000000000000001", "2000000000000000000/2000000000000000000", "1000000000*10000000000",
+       "1/999999999/9999999999", "1/999999999+1/9999999999", "1e39", "1e19*0", "1000000000000000000+1-1"]),
     // The first fault counts.
     (ExprFault::ZeroDivisor, &["1/0+1e30", "1/0*\\epsilon^5"]),
     (ExprFault::Part, &["1e30+1/0"]),
-    (
-        ExprFault::Degree,
-        &["(1000000000\\epsilon^3)(10000000000\\epsilon^2)"],
-    ),
+    (ExprFault::Degree, &["(1000000000\\epsilon^3)(10000000000\\epsilon^2)"]),
     (ExprFault::BadByte(3), &["1/0x"]),
     // A parenthesis past 32 that are open counts before any other byte.
-    (
-        ExprFault::Depth,
-        &[
-            "(((((((((\
-             ((((((((\
-             ((((((((\
-             ((((((((1/2))))))))\
-             ))))))))\
-             ))))))))\
-             )))))))))",
-            "(((((((((\
-             ((((((((\
-             ((((((((\
-             ((((((((1/0 5))))))))\
-             ))))))))\
-             ))))))))\
-             )))))))))",
-        ],
-    ),
-    (
-        ExprFault::BadByte(32),
-        &[
-            "((((((((\
-             ((((((((\
-             ((((((((\
-             ((((((((*())))))))\
-             ))))))))\
-             ))))))))\
-             ))))))))",
-        ],
-    ),
-];
+    (ExprFault::Depth,
+     &["(((((((((((((((((((((((((((((((((1/2)))))))))))))))))))))))))))))))))",
+       "(((((((((((((((((((((((((((((((((1/0 5)))))))))))))))))))))))))))))))))"]),
+    (ExprFault::BadByte(32), &["((((((((((((((((((((((((((((((((*())))))))))))))))))))))))))))))))"]),
+};
 
 fn has_fault(text: &str, fault: ExprFault) -> bool {
     match read_entry(text.as_bytes()) {

@@ -43,11 +43,8 @@ const BARE: &str = "hypothesis,weight,p,H1\nH1,1,,0\n";
 const TWO: &str = "hypothesis,weight,p,H1,H2\nH1,1/2,1/10000,0,1-\\epsilon\nH2,1/2,3/100,1,0\n";
 
 /// Sheets, and what is written of their cases.
-const SHEETS: &[(&str, &str)] = &[
-    (
-        "\"\",\"weight\",\"p\",\"H1\",\"H2\"\n\"H1\",0.5,1e-04,\"0\",\"1-\\epsilon\"\n\"H2\",0.5,0.03,\"1\",\"0\"\n",
-        TWO,
-    ),
+const SHEETS: &[(&str, &str)] = table! {
+    ("\"\",\"weight\",\"p\",\"H1\",\"H2\"\n\"H1\",0.5,1e-04,\"0\",\"1-\\epsilon\"\n\"H2\",0.5,0.03,\"1\",\"0\"\n", TWO),
     (TWO, TWO),
     ("hypothesis,weight,p,H1\nH1,1,0.01,0\n", ONE),
     (",weight,p,H1\nH1,1,0.01,0", ONE),
@@ -57,14 +54,8 @@ const SHEETS: &[(&str, &str)] = &[
     ("\n\n,weight,p,H1\n\r\n\rH1,1,0.01,0\n\n", ONE),
     ("\u{feff},weight,p,H1\nH1,1,0.01,0\n", ONE),
     ("\u{feff}\"hypothesis\",weight,p,H1\nH1,1,0.01,0\n", ONE),
-    (
-        " hypothesis ,\tweight, p , H1\n\tH1 \t, 1 ,\t0.01 , 0 \n",
-        ONE,
-    ),
-    (
-        ",weight,p,\" H1 \"\n\"H1\t\",\" 1\",\"0.01 \",\"\t0\"\n",
-        ONE,
-    ),
+    (" hypothesis ,\tweight, p , H1\n\tH1 \t, 1 ,\t0.01 , 0 \n", ONE),
+    (",weight,p,\" H1 \"\n\"H1\t\",\" 1\",\"0.01 \",\"\t0\"\n", ONE),
     (",weight,p,\"H\"1\n\"H1\"\t,1,\"0\".01,0\n", ONE),
     (",weight,p,H1\nH1,+1.,1e-2,0*\\epsilon\n", ONE),
     (",weight,p,H1\nH1,1,,0\n", BARE),
@@ -72,27 +63,14 @@ const SHEETS: &[(&str, &str)] = &[
     (",weight,p,H1\nH1,1,NA,0\n", BARE),
     (",weight,p,H1\nH1,1, NA\t,0-0\n", BARE),
     (",weight,p,H1\nH1,1,\"NA\",\\epsilon-\\epsilon\n", BARE),
-    (
-        ",weight,p,H1,H2\nH1,0.25,NA,0,0\nH2,1/8,,1,0\n",
-        "hypothesis,weight,p,H1,H2\nH1,1/4,,0,0\nH2,1/8,,1,0\n",
-    ),
-    (
-        ",weight,p,H1,H2\nH1,1,0,0,0\nH2,0,1,0,0\n",
-        "hypothesis,weight,p,H1,H2\nH1,1,0,0,0\nH2,0,1,0,0\n",
-    ),
-    (
-        ",weight,p,H1,H2\nH1,1,,0, ( 1 - \\epsilon ) / 2 \nH2,0,,\\epsilon^2,0\n",
-        "hypothesis,weight,p,H1,H2\nH1,1,,0,1/2-1/2*\\epsilon\nH2,0,,\\epsilon^2,0\n",
-    ),
-    (
-        ",weight,p,a_b.C-9,_,-\na_b.C-9,1/3,,0,1/2,1/2\n_,1/3,,0,0,1\n-,1/3,,1,0,0\n",
-        "hypothesis,weight,p,a_b.C-9,_,-\na_b.C-9,1/3,,0,1/2,1/2\n_,1/3,,0,0,1\n-,1/3,,1,0,0\n",
-    ),
-    (
-        ",weight,p,NA,p\nNA,1/2,NA,0,1\np,1/2,NA,1,0\n",
-        "hypothesis,weight,p,NA,p\nNA,1/2,,0,1\np,1/2,,1,0\n",
-    ),
-];
+    (",weight,p,H1,H2\nH1,0.25,NA,0,0\nH2,1/8,,1,0\n", "hypothesis,weight,p,H1,H2\nH1,1/4,,0,0\nH2,1/8,,1,0\n"),
+    (",weight,p,H1,H2\nH1,1,0,0,0\nH2,0,1,0,0\n", "hypothesis,weight,p,H1,H2\nH1,1,0,0,0\nH2,0,1,0,0\n"),
+    (",weight,p,H1,H2\nH1,1,,0, ( 1 - \\epsilon ) / 2 \nH2,0,,\\epsilon^2,0\n",
+     "hypothesis,weight,p,H1,H2\nH1,1,,0,1/2-1/2*\\epsilon\nH2,0,,\\epsilon^2,0\n"),
+    (",weight,p,a_b.C-9,_,-\na_b.C-9,1/3,,0,1/2,1/2\n_,1/3,,0,0,1\n-,1/3,,1,0,0\n",
+     "hypothesis,weight,p,a_b.C-9,_,-\na_b.C-9,1/3,,0,1/2,1/2\n_,1/3,,0,0,1\n-,1/3,,1,0,0\n"),
+    (",weight,p,NA,p\nNA,1/2,NA,0,1\np,1/2,NA,1,0\n", "hypothesis,weight,p,NA,p\nNA,1/2,,0,1\np,1/2,,1,0\n"),
+};
 
 #[test]
 fn sheets_are_written_again(rt: HostRuntime) {
@@ -117,7 +95,7 @@ const NO_EXPRESSION: RowKind = RowKind::Expr(ExprFault::BadByte(0));
 const BROKEN: RowKind = RowKind::Expr(ExprFault::BadByte(1));
 
 /// Sheets of which a record isn't allowed, is missing or is surplus, with the row and the column.
-const ROWS: &[(&str, usize, usize, RowKind)] = &[
+const ROWS: &[(&str, usize, usize, RowKind)] = table! {
     // The header.
     ("", 1, 1, RowKind::NoHeader),
     ("\n\r\n\r", 1, 1, RowKind::NoHeader),
@@ -145,39 +123,19 @@ const ROWS: &[(&str, usize, usize, RowKind)] = &[
     (",weight,p,H1\n \nH1,1,,0\n", 2, 1, RowKind::Width),
     (",weight,p,H1\n#c\nH1,1,,0\n", 2, 1, RowKind::Width),
     (",weight,p,H1\n\"H1,1,,0\n", 2, 1, RowKind::Width),
-    (
-        ",weight,p,H1,H2\nH1,1,,0,0\nH2,x,,0\nx\n",
-        3,
-        1,
-        RowKind::Width,
-    ),
+    (",weight,p,H1,H2\nH1,1,,0,0\nH2,x,,0\nx\n", 3, 1, RowKind::Width),
     (",weight,p,H1\nH2,x,,0\n", 2, 1, RowKind::Name),
     (",weight,p,H1\nh1,1,,0\n", 2, 1, RowKind::Name),
     (",weight,p,H1\n\"H1\n\",1,,0\n", 2, 1, RowKind::Name),
-    (
-        ",weight,p,H1,H2\nH2,1,,0,0\nH1,0,,0,0\n",
-        2,
-        1,
-        RowKind::Name,
-    ),
-    (
-        ",weight,p,H1,H2\nH1,1,,0,0\nH1,0,,0,0\n",
-        3,
-        1,
-        RowKind::Name,
-    ),
+    (",weight,p,H1,H2\nH2,1,,0,0\nH1,0,,0,0\n", 2, 1, RowKind::Name),
+    (",weight,p,H1,H2\nH1,1,,0,0\nH1,0,,0,0\n", 3, 1, RowKind::Name),
     (",weight,p,H1\nH1,,x,0\n", 2, 2, EMPTY),
     (",weight,p,H1\nH1, \t,x,0\n", 2, 2, EMPTY),
     (",weight,p,H1\nH1,NA,,0\n", 2, 2, BAD_FIRST),
     (",weight,p,H1\nH1,1 2,,0\n", 2, 2, BAD_SECOND),
     (",weight,p,H1\nH1,\"1\n\",,0\n", 2, 2, BAD_SECOND),
     (",weight,p,H1\nH1,1/0,y,z\n", 2, 2, ZERO),
-    (
-        ",weight,p,H1\nH1,111111111111111111111111111111111111111,y,z\n",
-        2,
-        2,
-        DIGITS,
-    ),
+    (",weight,p,H1\nH1,111111111111111111111111111111111111111,y,z\n", 2, 2, DIGITS),
     (",weight,p,H1\nH1,1,1/0,x\n", 2, 3, ZERO),
     (",weight,p,H1\nH1,1,na,z\n", 2, 3, BAD_FIRST),
     (",weight,p,H1\nH1,1,\"NA\n\",0\n", 2, 3, BAD_FIRST),
@@ -186,48 +144,24 @@ const ROWS: &[(&str, usize, usize, RowKind)] = &[
     (",weight,p,H1\nH1,1,,NA\n", 2, 4, NO_EXPRESSION),
     (",weight,p,H1\nH1,1,,\"0,0\"\n", 2, 4, BROKEN),
     (",weight,p,H1\nH1,1,,\"0\n\"\n", 2, 4, BROKEN),
-    (
-        ",weight,p,H1\nH1,1,,1/\\epsilon\n",
-        2,
-        4,
-        RowKind::Expr(ExprFault::DivisorNotNumber),
-    ),
-    (
-        ",weight,p,H1\nH1,1,,1/0\n",
-        2,
-        4,
-        RowKind::Expr(ExprFault::ZeroDivisor),
-    ),
-    (
-        ",weight,p,H1\nH1,1,,\\epsilon^5\n",
-        2,
-        4,
-        RowKind::Expr(ExprFault::Degree),
-    ),
+    (",weight,p,H1\nH1,1,,1/\\epsilon\n", 2, 4, RowKind::Expr(ExprFault::DivisorNotNumber)),
+    (",weight,p,H1\nH1,1,,1/0\n", 2, 4, RowKind::Expr(ExprFault::ZeroDivisor)),
+    (",weight,p,H1\nH1,1,,\\epsilon^5\n", 2, 4, RowKind::Expr(ExprFault::Degree)),
     (",weight,p,H1,H2\nH1,1,,0,x\n", 2, 5, NO_EXPRESSION),
     (",weight,p,H1,H2\nH1,1,,0,0\nH2,0,,-,x\n", 3, 4, BROKEN),
-];
+};
 
 /// Sheets whose records are all allowed, and whose draft is refused.
-const DRAFTS: &[(&str, CaseFault)] = &[
+const DRAFTS: &[(&str, CaseFault)] = table! {
     (",weight,p\n", CaseFault::NoHypothesis),
-    (
-        ",weight,p,\"H1\n\"\n\"H1\n\",1,,0\n",
-        CaseFault::NameForm(0),
-    ),
+    (",weight,p,\"H1\n\"\n\"H1\n\",1,,0\n", CaseFault::NameForm(0)),
     (",weight,p,H 1\nH 1,1,,0\n", CaseFault::NameForm(0)),
-    (
-        ",weight,p,H1,H1\nH1,1,,0,0\nH1,0,,0,0\n",
-        CaseFault::DuplicateName(1),
-    ),
+    (",weight,p,H1,H1\nH1,1,,0,0\nH1,0,,0,0\n", CaseFault::DuplicateName(1)),
     (",weight,p,H1\nH1,2,,0\n", CaseFault::WeightSum(0)),
     (",weight,p,H1\nH1,1,,1\n", CaseFault::SelfEdge(0, 0)),
-    (
-        ",weight,p,H1,H2\nH1,1,0,0,0\nH2,0,NA,0,0\n",
-        CaseFault::PMissing(1),
-    ),
+    (",weight,p,H1,H2\nH1,1,0,0,0\nH2,0,NA,0,0\n", CaseFault::PMissing(1)),
     (",weight,p,H1\nH1,1,-1,0\n", CaseFault::PRange(0)),
-];
+};
 
 /// Whether the first record that isn't allowed is that of this row, by the cell of this column, for this kind of fault.
 fn has_row_fault(alloc: Global, sheet: &str, row: usize, column: usize, kind: RowKind) -> bool {

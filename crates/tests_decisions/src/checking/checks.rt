@@ -1,10 +1,9 @@
 //! Documents by hand, read and checked.
+use crate::cases::CHAIN;
 use crate::checking::cases::{
     FIXED, FIXED_EVIDENCE, GATEKEEPING, GATEKEEPING_EVIDENCE, case_of, expect,
 };
-use crate::checking::documents::{
-    CHECKED, LONG, LONG_EVIDENCE, LONG_IS_WIDE, REFUSED, REPEATED_STEP,
-};
+use crate::checking::documents::{CHECKED, LONG_EVIDENCE, LONG_IS_WIDE, REFUSED, REPEATED_STEP};
 use eps_quotient::EpsQuotient;
 use evidence_check::{
     CheckWide, Evidence, KeepProof, ProofKind, ProofStep, ProofText, Reason, Verdict, check,
@@ -44,7 +43,7 @@ fn documents_are_accepted_or_not(rt: HostRuntime) {
 
 #[test]
 fn long_products_are_too_wide(rt: HostRuntime) {
-    let answer = checked(&rt, rt.alloc(), LONG, LONG_EVIDENCE);
+    let answer = checked(&rt, rt.alloc(), CHAIN, LONG_EVIDENCE);
     assert!(&rt; answer == Some(Err(LONG_IS_WIDE)));
 }
 

@@ -16,34 +16,16 @@ use std::alloc::Global;
 use std::process::Abort;
 
 /// Two components of the same share, one of them with an edge in epsilon.
-const ENTANGLED: &str = "alpha 0.05\n\
-    hypotheses H1 H2 H3\n\
-    p 0.02 0.04 0.9\n\
-    component 1/2\n\
-    weights 1 0 0\n\
-    edge H1 H2 1-\\epsilon\n\
-    edge H2 H3 1/2\n\
-    component 1/2\n\
-    weights 0 1 0\n\
-    edge H1 H3 1\n";
+const ENTANGLED: &str = "alpha 0.05\nhypotheses H1 H2 H3\np 0.02 0.04 0.9\n\
+    component 1/2\nweights 1 0 0\nedge H1 H2 1-\\epsilon\nedge H2 H3 1/2\n\
+    component 1/2\nweights 0 1 0\nedge H1 H3 1\n";
 
-const ENTANGLED_EVIDENCE: &str = "evidence 2\n\
-    step H1\n\
-    step H2\n\
-    flow 1 H1 1\n\
-    flow 2 H1 0\n\
-    keep H3\n\
-    exit 1 H1 [1,-1]/[2]\n\
-    exit 1 H2 1/2\n\
-    exit 2 H1 1\n\
-    exit 2 H2 0\n\
-    end\n";
+const ENTANGLED_EVIDENCE: &str =
+    "evidence 2\nstep H1\nstep H2\nflow 1 H1 1\nflow 2 H1 0\nkeep H3\nexit 1 H1 [1,-1]/[2]\n\
+    exit 1 H2 1/2\nexit 2 H1 1\nexit 2 H2 0\nend\n";
 
 /// No hypothesis is rejected.
-const KEPT: &str = "alpha 0.05\n\
-    hypotheses H1 H2\n\
-    p 0.5 0.5\n\
-    weights 1/2 1/2\n\
+const KEPT: &str = "alpha 0.05\nhypotheses H1 H2\np 0.5 0.5\nweights 1/2 1/2\n\
     edge H1 H2 1\n";
 
 const KEPT_EVIDENCE: &str = "evidence 2\nkeep H1\nkeep H2\nend\n";
@@ -90,13 +72,8 @@ fn evidence_is_that_of_the_run(rt: HostRuntime) {
 }
 
 /// No weight is passed on, but what H4 sends through H1, at once and by way of H2, has a denominator near 10^54.
-const LONG: &str = "alpha 0.05\n\
-    hypotheses H1 H2 H3 H4\n\
-    p 0 0 0 1\n\
-    weights 1/3 1/3 1/3 0\n\
-    edge H4 H1 1/1000000000000000000\n\
-    edge H4 H2 1/999999999999999999\n\
-    edge H2 H1 1/999999999999999997\n";
+const LONG: &str = "alpha 0.05\nhypotheses H1 H2 H3 H4\np 0 0 0 1\nweights 1/3 1/3 1/3 0\n\
+    edge H4 H1 1/1000000000000000000\nedge H4 H2 1/999999999999999999\nedge H2 H1 1/999999999999999997\n";
 
 #[test]
 fn long_visits_are_too_wide(rt: HostRuntime) {

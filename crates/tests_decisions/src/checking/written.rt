@@ -9,51 +9,23 @@ use std::alloc::Global;
 use std::process::Abort;
 
 /// Two components of the same share, one of them with an edge in epsilon.
-const ENTANGLED: &str = "alpha 0.05\n\
-    hypotheses H1 H2 H3\n\
-    p 0.02 0.9 0.9\n\
-    component 1/2\n\
-    weights 1 0 0\n\
-    edge H1 H2 1-\\epsilon\n\
-    component 1/2\n\
-    weights 0 1 0\n\
-    edge H1 H3 1\n";
+const ENTANGLED: &str = "alpha 0.05\nhypotheses H1 H2 H3\np 0.02 0.9 0.9\n\
+    component 1/2\nweights 1 0 0\nedge H1 H2 1-\\epsilon\n\
+    component 1/2\nweights 0 1 0\nedge H1 H3 1\n";
 
 /// The components stand one after another after a step or a keep.
-const ENTANGLED_EVIDENCE: &str = "evidence 2\n\
-    step H1\n\
-    step H3\n\
-    flow 1 H1 0\n\
-    flow 2 H1 [0,1]/[1]\n\
-    keep H2\n\
-    exit 1 H1 [1,-1]/[1]\n\
-    exit 1 H3 0\n\
-    exit 2 H1 0\n\
-    exit 2 H3 7\n\
-    end\n";
+const ENTANGLED_EVIDENCE: &str =
+    "evidence 2\nstep H1\nstep H3\nflow 1 H1 0\nflow 2 H1 [0,1]/[1]\nkeep H2\n\
+    exit 1 H1 [1,-1]/[1]\nexit 1 H3 0\nexit 2 H1 0\nexit 2 H3 7\nend\n";
 
 /// Blanks, comments and common factors, which aren't written again.
-const SPACED: &str = "# all four\n\
-    evidence  2\n\
-    \n\
-    step H1\n \
-    step H3\n\
-    flow 1 H1 2/4\n\
-    step H4\r\n\
-    flow\t1 H1 [2]/[4,-2,0]\n\
-    flow 1 H3 [1]/[4,-2]\n\
-    step H2\n\
-    flow 1 H1 1\n\
-    flow 1 H3 [0,1]/[0,0,2]\n\
-    flow 1 H4 [1]/[0,2]\n\
-    end";
+const SPACED: &str =
+    "# all four\nevidence  2\n\nstep H1\n step H3\nflow 1 H1 2/4\nstep H4\r\nflow\t1 H1 [2]/[4,-2,0]\n\
+    flow 1 H3 [1]/[4,-2]\nstep H2\nflow 1 H1 1\nflow 1 H3 [0,1]/[0,0,2]\nflow 1 H4 [1]/[0,2]\nend";
 
 /// A number may have more digits than one of a case.
-const VERSION_1: &str = "evidence 1\n\
-    step H1\n\
-    step H2\n\
-    flow 1 H1 170141183460469231731687303715884105727/170141183460469231731687303715884105726\n\
-    end\n";
+const VERSION_1: &str = "evidence 1\nstep H1\nstep H2\n\
+    flow 1 H1 170141183460469231731687303715884105727/170141183460469231731687303715884105726\nend\n";
 
 /// Cases and documents, each with its text when it is written.
 const WRITTEN: &[(&str, &str, &str)] = &[

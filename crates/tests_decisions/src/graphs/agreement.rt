@@ -16,114 +16,43 @@ use std::cmp::Ordering;
 use std::process::Abort;
 
 /// Graphs of three hypotheses of weight 1/3.
-const GRAPHS_OF_THREE: &[&str] = &[
+const GRAPHS_OF_THREE: &[&str] = table! {
     // One that keeps all, one that epsilon leaves.
-    "alpha 0.05\n\
-    hypotheses A B C\n\
-    weights 1/3 1/3 1/3\n\
-    edge A B 1-\\epsilon\n\
-    edge A C \\epsilon\n\
-    edge B A 1\n",
+    "alpha 0.05\nhypotheses A B C\nweights 1/3 1/3 1/3\nedge A B 1-\\epsilon\nedge A C \\epsilon\nedge B A 1\n",
     // A fallback in which epsilon goes back.
-    "alpha 0.05\n\
-    hypotheses A B C\n\
-    weights 1/3 1/3 1/3\n\
-    edge A B 1\n\
-    edge B C 1-\\epsilon\n\
-    edge B A \\epsilon\n\
-    edge C A 1\n",
+    "alpha 0.05\nhypotheses A B C\nweights 1/3 1/3 1/3\nedge A B 1\nedge B C 1-\\epsilon\nedge B A \\epsilon\nedge C A 1\n",
     // Epsilon both ways.
-    "alpha 0.05\n\
-    hypotheses A B C\n\
-    weights 1/3 1/3 1/3\n\
-    edge A B \\epsilon\n\
-    edge B A \\epsilon\n\
-    edge B C \\epsilon\n\
-    edge C B \\epsilon\n",
+    "alpha 0.05\nhypotheses A B C\nweights 1/3 1/3 1/3\n\
+     edge A B \\epsilon\nedge B A \\epsilon\nedge B C \\epsilon\nedge C B \\epsilon\n",
     // The square of epsilon alone continues.
-    "alpha 0.05\n\
-    hypotheses A B C\n\
-    weights 1/3 1/3 1/3\n\
-    edge A B \\epsilon\n\
-    edge B C 1\n\
-    edge C A 1-\\epsilon^2\n",
-    "alpha 0.05\n\
-    hypotheses A B C\n\
-    weights 1/3 1/3 1/3\n\
-    edge A B 1/2-1/3*\\epsilon\n\
-    edge A C 1/3-1/7*\\epsilon+2/5*\\epsilon^2\n\
-    edge B A 1/2\n\
-    edge B C 1/2-1/3*\\epsilon\n\
-    edge C A 1/3\n\
-    edge C B 1/3\n",
+    "alpha 0.05\nhypotheses A B C\nweights 1/3 1/3 1/3\nedge A B \\epsilon\nedge B C 1\nedge C A 1-\\epsilon^2\n",
+    "alpha 0.05\nhypotheses A B C\nweights 1/3 1/3 1/3\n\
+     edge A B 1/2-1/3*\\epsilon\nedge A C 1/3-1/7*\\epsilon+2/5*\\epsilon^2\nedge B A 1/2\nedge B C 1/2-1/3*\\epsilon\n\
+     edge C A 1/3\nedge C B 1/3\n",
     // To one that passes nothing on.
-    "alpha 0.05\n\
-    hypotheses A B C\n\
-    weights 1/3 1/3 1/3\n\
-    edge A C 1-\\epsilon\n\
-    edge A B \\epsilon^2\n\
-    edge B C \\epsilon\n",
-];
+    "alpha 0.05\nhypotheses A B C\nweights 1/3 1/3 1/3\nedge A C 1-\\epsilon\nedge A B \\epsilon^2\nedge B C \\epsilon\n",
+};
 
 /// Graphs of four hypotheses, the first of which has all the weight.
-const GRAPHS_OF_FOUR: &[&str] = &[
-    "alpha 0.05\n\
-    hypotheses A B C D\n\
-    weights 1 0 0 0\n\
-    edge A B 1/2-1/3*\\epsilon\n\
-    edge A C 1/3\n\
-    edge B A 1/2+1/4*\\epsilon\n\
-    edge B D 1/3-1/7*\\epsilon+2/5*\\epsilon^2\n\
-    edge C D 1/2\n\
-    edge D A 1/3\n",
-    "alpha 0.05\n\
-    hypotheses A B C D\n\
-    weights 1 0 0 0\n\
-    edge A D 1/3-1/7*\\epsilon+2/5*\\epsilon^2\n\
-    edge D B 1/2+1/4*\\epsilon\n\
-    edge B A 1/2-1/3*\\epsilon\n\
-    edge C B 1/2\n",
+const GRAPHS_OF_FOUR: &[&str] = table! {
+    "alpha 0.05\nhypotheses A B C D\nweights 1 0 0 0\n\
+     edge A B 1/2-1/3*\\epsilon\nedge A C 1/3\nedge B A 1/2+1/4*\\epsilon\nedge B D 1/3-1/7*\\epsilon+2/5*\\epsilon^2\n\
+     edge C D 1/2\nedge D A 1/3\n",
+    "alpha 0.05\nhypotheses A B C D\nweights 1 0 0 0\n\
+     edge A D 1/3-1/7*\\epsilon+2/5*\\epsilon^2\nedge D B 1/2+1/4*\\epsilon\nedge B A 1/2-1/3*\\epsilon\nedge C B 1/2\n",
     // Improved gatekeeping.
-    "alpha 0.05\n\
-    hypotheses A B C D\n\
-    weights 1 0 0 0\n\
-    edge A C 1/2\n\
-    edge A D 1/2\n\
-    edge B C 1/2\n\
-    edge B D 1/2\n\
-    edge C A \\epsilon\n\
-    edge C D 1-\\epsilon\n\
-    edge D B \\epsilon\n\
-    edge D C 1-\\epsilon\n",
+    "alpha 0.05\nhypotheses A B C D\nweights 1 0 0 0\n\
+     edge A C 1/2\nedge A D 1/2\nedge B C 1/2\nedge B D 1/2\nedge C A \\epsilon\nedge C D 1-\\epsilon\nedge D B \\epsilon\n\
+     edge D C 1-\\epsilon\n",
     // The square of epsilon.
-    "alpha 0.05\n\
-    hypotheses A B C D\n\
-    weights 1 0 0 0\n\
-    edge A B 1-\\epsilon^2\n\
-    edge A C \\epsilon^2\n\
-    edge B D \\epsilon\n\
-    edge C D 1\n\
-    edge D B 1-\\epsilon\n",
-    "alpha 0.05\n\
-    hypotheses A B C D\n\
-    weights 1 0 0 0\n\
-    edge A B 1/2\n\
-    edge A C 1/2\n\
-    edge B A 1-\\epsilon\n\
-    edge B C \\epsilon\n\
-    edge C A 1-\\epsilon\n\
-    edge C D \\epsilon\n\
-    edge D A 1/2\n\
-    edge D B 1/2-1/3*\\epsilon\n",
-    "alpha 0.05\n\
-    hypotheses A B C D\n\
-    weights 1 0 0 0\n\
-    edge A B 1-\\epsilon\n\
-    edge A C \\epsilon\n\
-    edge B C 1-\\epsilon^2\n\
-    edge C D 1/2+1/4*\\epsilon\n\
-    edge D A \\epsilon\n",
-];
+    "alpha 0.05\nhypotheses A B C D\nweights 1 0 0 0\n\
+     edge A B 1-\\epsilon^2\nedge A C \\epsilon^2\nedge B D \\epsilon\nedge C D 1\nedge D B 1-\\epsilon\n",
+    "alpha 0.05\nhypotheses A B C D\nweights 1 0 0 0\n\
+     edge A B 1/2\nedge A C 1/2\nedge B A 1-\\epsilon\nedge B C \\epsilon\nedge C A 1-\\epsilon\nedge C D \\epsilon\n\
+     edge D A 1/2\nedge D B 1/2-1/3*\\epsilon\n",
+    "alpha 0.05\nhypotheses A B C D\nweights 1 0 0 0\n\
+     edge A B 1-\\epsilon\nedge A C \\epsilon\nedge B C 1-\\epsilon^2\nedge C D 1/2+1/4*\\epsilon\nedge D A \\epsilon\n",
+};
 
 const ORDERS_OF_THREE: &[&[usize]] = &[&[0, 1, 2], &[1, 2, 0], &[2, 0, 1]];
 

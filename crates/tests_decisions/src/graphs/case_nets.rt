@@ -17,96 +17,34 @@ struct Row<'a> {
 }
 
 /// Two components: in each of them one hypothesis has all the weight, and passes it to the other one.
-const SHARED: &str = "alpha 0.05\n\
-    hypotheses A B\n\
-    component 1/2\n\
-    weights 1 0\n\
-    edge A B 1\n\
-    component 1/2\n\
-    weights 0 1\n\
-    edge B A 1\n";
+const SHARED: &str = "alpha 0.05\nhypotheses A B\n\
+    component 1/2\nweights 1 0\nedge A B 1\n\
+    component 1/2\nweights 0 1\nedge B A 1\n";
 
 /// A weight of epsilon is a level of 0.
-const EPSILON: &str = "alpha 0.05\n\
-    hypotheses A B C\n\
-    weights 1 0 0\n\
-    edge A B 1-\\epsilon\n\
-    edge A C \\epsilon\n";
+const EPSILON: &str = "alpha 0.05\nhypotheses A B C\nweights 1 0 0\n\
+    edge A B 1-\\epsilon\nedge A C \\epsilon\n";
 
 /// The common denominator of the edge has 36 digits.
-const LONG: &str = "alpha 0.05\n\
-    hypotheses A B\n\
-    weights 1 0\n\
+const LONG: &str = "alpha 0.05\nhypotheses A B\nweights 1 0\n\
     edge A B 1/1000000000000000000+1/999999999999999999*\\epsilon\n";
 
-const ROWS: &[Row] = &[
-    Row {
-        case: HOLM,
-        removed: &[],
-        levels: &[Some((1, 3)), Some((1, 3)), Some((1, 3))],
-    },
-    Row {
-        case: HOLM,
-        removed: &[1],
-        levels: &[Some((1, 2)), None, Some((1, 2))],
-    },
-    Row {
-        case: HOLM,
-        removed: &[1, 0],
-        levels: &[None, None, Some((1, 1))],
-    },
-    Row {
-        case: SHARED,
-        removed: &[],
-        levels: &[Some((1, 2)), Some((1, 2))],
-    },
-    Row {
-        case: SHARED,
-        removed: &[0],
-        levels: &[None, Some((1, 1))],
-    },
+const ROWS: &[Row] = table! {
+    Row { case: HOLM, removed: &[], levels: &[Some((1, 3)), Some((1, 3)), Some((1, 3))] },
+    Row { case: HOLM, removed: &[1], levels: &[Some((1, 2)), None, Some((1, 2))] },
+    Row { case: HOLM, removed: &[1, 0], levels: &[None, None, Some((1, 1))] },
+    Row { case: SHARED, removed: &[], levels: &[Some((1, 2)), Some((1, 2))] },
+    Row { case: SHARED, removed: &[0], levels: &[None, Some((1, 1))] },
     // All but epsilon goes from C to D and back, and only what is left of it continues.
-    Row {
-        case: IMPROVED_GATEKEEPING,
-        removed: &[],
-        levels: &[Some((1, 2)), Some((1, 2)), Some((0, 1)), Some((0, 1))],
-    },
-    Row {
-        case: IMPROVED_GATEKEEPING,
-        removed: &[0],
-        levels: &[None, Some((1, 2)), Some((1, 4)), Some((1, 4))],
-    },
-    Row {
-        case: IMPROVED_GATEKEEPING,
-        removed: &[0, 2],
-        levels: &[None, Some((1, 2)), None, Some((1, 2))],
-    },
-    Row {
-        case: IMPROVED_GATEKEEPING,
-        removed: &[0, 2, 3],
-        levels: &[None, Some((1, 1)), None, None],
-    },
-    Row {
-        case: IMPROVED_GATEKEEPING,
-        removed: &[0, 2, 3, 1],
-        levels: &[None, None, None, None],
-    },
-    Row {
-        case: EPSILON,
-        removed: &[],
-        levels: &[Some((1, 1)), Some((0, 1)), Some((0, 1))],
-    },
-    Row {
-        case: EPSILON,
-        removed: &[0],
-        levels: &[None, Some((1, 1)), Some((0, 1))],
-    },
-    Row {
-        case: LONG,
-        removed: &[],
-        levels: &[Some((1, 1)), Some((0, 1))],
-    },
-];
+    Row { case: IMPROVED_GATEKEEPING, removed: &[], levels: &[Some((1, 2)), Some((1, 2)), Some((0, 1)), Some((0, 1))] },
+    Row { case: IMPROVED_GATEKEEPING, removed: &[0], levels: &[None, Some((1, 2)), Some((1, 4)), Some((1, 4))] },
+    Row { case: IMPROVED_GATEKEEPING, removed: &[0, 2], levels: &[None, Some((1, 2)), None, Some((1, 2))] },
+    Row { case: IMPROVED_GATEKEEPING, removed: &[0, 2, 3], levels: &[None, Some((1, 1)), None, None] },
+    Row { case: IMPROVED_GATEKEEPING, removed: &[0, 2, 3, 1], levels: &[None, None, None, None] },
+    Row { case: EPSILON, removed: &[], levels: &[Some((1, 1)), Some((0, 1)), Some((0, 1))] },
+    Row { case: EPSILON, removed: &[0], levels: &[None, Some((1, 1)), Some((0, 1))] },
+    Row { case: LONG, removed: &[], levels: &[Some((1, 1)), Some((0, 1))] },
+};
 
 /// Returns the nets of a case, in which all hypotheses remain.
 pub fn opened(rt: &impl Abort, alloc: Global, text: &str) -> CaseNet {

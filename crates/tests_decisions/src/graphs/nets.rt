@@ -20,66 +20,21 @@ struct Row<'a> {
 }
 
 /// Two primary hypotheses, each of which passes half to either of two secondary ones, and these pass all to each other.
-const GATEKEEPING: &str = "alpha 0.05\n\
-    hypotheses A B C D\n\
-    weights 1/2 1/2 0 0\n\
-    edge A C 1/2\n\
-    edge A D 1/2\n\
-    edge B C 1/2\n\
-    edge B D 1/2\n\
-    edge C D 1\n\
-    edge D C 1\n";
+const GATEKEEPING: &str = "alpha 0.05\nhypotheses A B C D\nweights 1/2 1/2 0 0\n\
+    edge A C 1/2\nedge A D 1/2\nedge B C 1/2\nedge B D 1/2\nedge C D 1\nedge D C 1\n";
 
-const ROWS: &[Row] = &[
-    Row {
-        case: HOLM,
-        removed: &[],
-        weights: &[Some((1, 3)), Some((1, 3)), Some((1, 3))],
-        edges: &[(0, 0, (0, 1)), (0, 1, (1, 2)), (2, 1, (1, 2))],
-    },
-    Row {
-        case: HOLM,
-        removed: &[1],
-        weights: &[Some((1, 2)), None, Some((1, 2))],
-        edges: &[
-            (0, 0, (0, 1)),
-            (0, 2, (1, 1)),
-            (2, 0, (1, 1)),
-            (2, 2, (0, 1)),
-        ],
-    },
-    Row {
-        case: HOLM,
-        removed: &[1, 0],
-        weights: &[None, None, Some((1, 1))],
-        edges: &[],
-    },
-    Row {
-        case: GATEKEEPING,
-        removed: &[0],
-        weights: &[None, Some((1, 2)), Some((1, 4)), Some((1, 4))],
-        edges: &[
-            (1, 2, (1, 2)),
-            (1, 3, (1, 2)),
-            (2, 1, (0, 1)),
-            (2, 3, (1, 1)),
-            (3, 1, (0, 1)),
-            (3, 2, (1, 1)),
-        ],
-    },
-    Row {
-        case: GATEKEEPING,
-        removed: &[0, 2],
-        weights: &[None, Some((1, 2)), None, Some((1, 2))],
-        edges: &[(1, 3, (1, 1)), (3, 1, (0, 1))],
-    },
-    Row {
-        case: GATEKEEPING,
-        removed: &[0, 2, 3],
-        weights: &[None, Some((1, 2)), None, None],
-        edges: &[],
-    },
-];
+const ROWS: &[Row] = table! {
+    Row { case: HOLM, removed: &[], weights: &[Some((1, 3)), Some((1, 3)), Some((1, 3))],
+        edges: &[(0, 0, (0, 1)), (0, 1, (1, 2)), (2, 1, (1, 2))] },
+    Row { case: HOLM, removed: &[1], weights: &[Some((1, 2)), None, Some((1, 2))],
+        edges: &[(0, 0, (0, 1)), (0, 2, (1, 1)), (2, 0, (1, 1)), (2, 2, (0, 1))] },
+    Row { case: HOLM, removed: &[1, 0], weights: &[None, None, Some((1, 1))], edges: &[] },
+    Row { case: GATEKEEPING, removed: &[0], weights: &[None, Some((1, 2)), Some((1, 4)), Some((1, 4))],
+        edges: &[(1, 2, (1, 2)), (1, 3, (1, 2)), (2, 1, (0, 1)), (2, 3, (1, 1)), (3, 1, (0, 1)), (3, 2, (1, 1))] },
+    Row { case: GATEKEEPING, removed: &[0, 2], weights: &[None, Some((1, 2)), None, Some((1, 2))],
+        edges: &[(1, 3, (1, 1)), (3, 1, (0, 1))] },
+    Row { case: GATEKEEPING, removed: &[0, 2, 3], weights: &[None, Some((1, 2)), None, None], edges: &[] },
+};
 
 const CHAIN_OF_TWO: &Row = &Row {
     case: CHAIN,

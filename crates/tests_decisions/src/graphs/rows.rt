@@ -16,96 +16,35 @@ struct Row<'a> {
     edges: &'a [(usize, usize, &'a str)],
 }
 
-const ROWS: &[Row] = &[
-    Row {
-        case: IMPROVED_GATEKEEPING,
-        removed: &[],
-        weights: &[Some("1/2"), Some("1/2"), Some("0"), Some("0")],
-        edges: &[
-            (0, 0, "0"),
-            (2, 0, "[0,1]/[1]"),
-            (2, 3, "[1,-1]/[1]"),
-            (3, 1, "[0,1]/[1]"),
-        ],
-    },
+const ROWS: &[Row] = table! {
+    Row { case: IMPROVED_GATEKEEPING, removed: &[], weights: &[Some("1/2"), Some("1/2"), Some("0"), Some("0")],
+        edges: &[(0, 0, "0"), (2, 0, "[0,1]/[1]"), (2, 3, "[1,-1]/[1]"), (3, 1, "[0,1]/[1]")] },
     // (1 - e + e/2) / (1 - e/2) is 1
-    Row {
-        case: IMPROVED_GATEKEEPING,
-        removed: &[0],
-        weights: &[None, Some("1/2"), Some("1/4"), Some("1/4")],
-        edges: &[
-            (1, 2, "1/2"),
-            (1, 3, "1/2"),
-            (2, 1, "0"),
-            (2, 3, "1"),
-            (3, 1, "[0,1]/[1]"),
-            (3, 2, "[1,-1]/[1]"),
-        ],
-    },
+    Row { case: IMPROVED_GATEKEEPING, removed: &[0], weights: &[None, Some("1/2"), Some("1/4"), Some("1/4")],
+        edges: &[(1, 2, "1/2"), (1, 3, "1/2"), (2, 1, "0"), (2, 3, "1"), (3, 1, "[0,1]/[1]"), (3, 2, "[1,-1]/[1]")] },
     // e / (1 - (1 - e)) is 1
-    Row {
-        case: IMPROVED_GATEKEEPING,
-        removed: &[0, 2],
-        weights: &[None, Some("1/2"), None, Some("1/2")],
-        edges: &[(1, 3, "1"), (3, 1, "1")],
-    },
-    Row {
-        case: IMPROVED_GATEKEEPING,
-        removed: &[0, 2, 3],
-        weights: &[None, Some("1"), None, None],
-        edges: &[],
-    },
-    Row {
-        case: POLYNOMIAL,
-        removed: &[0, 1, 2],
-        weights: &[None, None, None, Some("[1]/[4,0,-4]")],
-        edges: &[],
-    },
-    Row {
-        case: POWERS,
-        removed: &[0, 1, 2, 3, 4],
-        weights: &[None, None, None, None, None, Some("1/2")],
-        edges: &[],
-    },
-    Row {
-        case: CONTENT,
-        removed: &[0, 1, 2],
-        weights: &[None, None, None, Some("1")],
-        edges: &[],
-    },
-];
+    Row { case: IMPROVED_GATEKEEPING, removed: &[0, 2], weights: &[None, Some("1/2"), None, Some("1/2")],
+        edges: &[(1, 3, "1"), (3, 1, "1")] },
+    Row { case: IMPROVED_GATEKEEPING, removed: &[0, 2, 3], weights: &[None, Some("1"), None, None], edges: &[] },
+    Row { case: POLYNOMIAL, removed: &[0, 1, 2], weights: &[None, None, None, Some("[1]/[4,0,-4]")], edges: &[] },
+    Row { case: POWERS, removed: &[0, 1, 2, 3, 4], weights: &[None, None, None, None, None, Some("1/2")], edges: &[] },
+    Row { case: CONTENT, removed: &[0, 1, 2], weights: &[None, None, None, Some("1")], edges: &[] },
+};
 
 /// D gets a quarter of what A and B pass round, 1 / (1 - e^2). Once C is removed, both parts of its weight have been divided by
 /// 1 - e^2, the denominator of the row of B. A number by itself keeps such a factor.
-const POLYNOMIAL: &str = "alpha 0.05\n\
-    hypotheses A B C D\n\
-    weights 1 0 0 0\n\
-    edge A B \\epsilon\n\
-    edge A C 1/2\n\
-    edge B A \\epsilon\n\
-    edge C D 1/2\n";
+const POLYNOMIAL: &str = "alpha 0.05\nhypotheses A B C D\nweights 1 0 0 0\n\
+    edge A B \\epsilon\nedge A C 1/2\nedge B A \\epsilon\nedge C D 1/2\n";
 
 /// All that A has continues, and F gets half of it. Each pair has e^4 in the denominators of its rows; if it weren't divided
 /// out, e^40 would be in the denominators of the weights in the end.
-const POWERS: &str = "alpha 0.05\n\
-    hypotheses A B C D E F\n\
-    weights 1 0 0 0 0 0\n\
-    edge A B 1\n\
-    edge B A 1-\\epsilon^4\n\
-    edge B C \\epsilon^4\n\
-    edge C D 1\n\
-    edge D C 1-\\epsilon^4\n\
-    edge D E \\epsilon^4\n\
+const POWERS: &str = "alpha 0.05\nhypotheses A B C D E F\nweights 1 0 0 0 0 0\n\
+    edge A B 1\nedge B A 1-\\epsilon^4\nedge B C \\epsilon^4\nedge C D 1\nedge D C 1-\\epsilon^4\nedge D E \\epsilon^4\n\
     edge E F 1/2\n";
 
 /// The rows of hypotheses without weight: if their denominators weren't divided out, those of the weights would have 54 digits.
-const CONTENT: &str = "alpha 0.05\n\
-    hypotheses A B C D\n\
-    weights 0 0 0 1\n\
-    edge A D 1/1000000000000000000\n\
-    edge B D 1/999999999999999999\n\
-    edge C D 1/999999999999999997\n\
-    edge D A \\epsilon\n";
+const CONTENT: &str = "alpha 0.05\nhypotheses A B C D\nweights 0 0 0 1\n\
+    edge A D 1/1000000000000000000\nedge B D 1/999999999999999999\nedge C D 1/999999999999999997\nedge D A \\epsilon\n";
 
 /// Returns the rows of a graph, in which all hypotheses remain.
 fn opened(rt: &impl Abort, alloc: Global, text: &str) -> RowNet {
