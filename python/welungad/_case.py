@@ -86,6 +86,22 @@ def _fail(text: str, cause: str) -> NoReturn:
     raise BadAnswer(f"what answered is not an answer to canon: {cause}; it begins with {text[:60]!r}")
 
 
+def _words(line: str, word: str) -> List[str]:
+    """Returns the words of a line after the first one, which is known."""
+    first, *words = line.split(" ")
+    if first != word:
+        raise ValueError(f"{line!r} is not its line {word}")
+    return words
+
+
+def _names_in(line: str) -> Tuple[str, ...]:
+    """Returns the names of a line hypotheses."""
+    names = tuple(_words(line, "hypotheses"))
+    if not names or len({*names}) != len(names) or not all(map(NAME.fullmatch, names)):
+        raise ValueError("its names are none, or are not different")
+    return names
+
+
 class Canonical:
     """A canonical text and its parts: the level, the names, the p-values if it has any, the graphs, and the lines of its stages.
 
@@ -96,10 +112,8 @@ class Canonical:
         lines = text.split("\n")
         if len(lines) < 4 or lines.pop():
             raise ValueError("it has no lines alpha, hypotheses and weights, or its last line has no end")
-        self.alpha = fraction(*self._words(lines[0], "alpha"))
-        self.names = tuple(self._words(lines[1], "hypotheses"))
-        if not self.names or len({*self.names}) != len(self.names) or not all(map(NAME.fullmatch, self.names)):
-            raise ValueError("its names are none, or are not different")
+        self.alpha = fraction(*_words(lines[0], "alpha"))
+        self.names = _names_in(lines[1])
         self.p: Optional[Dict[str, Fraction]] = None
         self.shares: List[Fraction] = []
         self.weights: List[Dict[str, Fraction]] = []
@@ -110,13 +124,6 @@ class Canonical:
             self._put(line)
         if not self.weights or len(self.shares) != len(self.weights):
             raise ValueError("it has no graph, or one without weights")
-
-    @staticmethod
-    def _words(line: str, word: str) -> List[str]:
-        first, *words = line.split(" ")
-        if first != word:
-            raise ValueError(f"{line!r} is not its line {word}")
-        return words
 
     def _put(self, line: str) -> None:
         """Takes a line after the first two, which has to be in its place."""
@@ -185,6 +192,14 @@ class Canonical:
         """The text before its stages."""
         lines = self.text.split("\n")
         return self.text if not self.stages else "\n".join([*lines[: len(lines) - 1 - len(self.stages)], ""])
+
+
+def canonical_names(text: str) -> Tuple[str, ...]:
+    """Returns the names of a canonical text, of which nothing else is read. `BadAnswer`: its second line has none."""
+    try:
+        return _names_in(text.split("\n")[1])
+    except (ValueError, IndexError) as error:
+        _fail(text, f"its line hypotheses cannot be read ({error})")
 
 
 def read_canonical(text: str) -> Canonical:

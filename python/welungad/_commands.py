@@ -2,7 +2,7 @@
 from typing import Callable, List, Optional, Tuple, TypeVar, Union
 
 from ._calls import Text, bytes_of, kind_of, run
-from ._case import read_canonical
+from ._case import canonical_names
 from ._numbers import Given, numeral
 from ._reports import (Report, check_answer, read_bounds, read_decision, read_evidence, read_simes, read_stages, read_weights, read_whole,
                        take_answer)
@@ -31,7 +31,7 @@ def _words(command: List[str], form: str, alpha: Optional[Level], **options: Opt
 
 def _names_of(case: bytes, form: str, alpha: Optional[Level]) -> Tuple[str, ...]:
     """Returns the names of the hypotheses of a case that the proved call has accepted."""
-    return read_canonical(take_answer("canon", *run(_words(["canon"], form, alpha), case))).names
+    return canonical_names(take_answer("canon", *run(_words(["canon"], form, alpha), case)))
 
 
 def _read(words: List[str], case: Text, form: str, alpha: Optional[Level], read: Callable[[Report], Found]) -> Found:
